@@ -1,5 +1,5 @@
 -- What the inputs of an audit are judged to be, from what opening them gave.
-use Rattle.shared_lemmas.proofs.Common.{◌≡◌, ◌≢◌, ◌≤◌, ◌<◌, ◌^◌, ℕ, List, [], ◌∷◌, length, take, Bool, true, false, nat_le, Option, Some, None, Result, Ok, Err, refl, sym, ap, subst, ◌∙◌, ◌⊎◌, inl, inr, arith, nat_tests, take_all, cases_Bool, get}
+use Rattle.shared_lemmas.proofs.Common.{◌≡◌, ◌≢◌, ◌≤◌, ◌<◌, ◌^◌, ℕ, List, [], ◌∷◌, length, take, Bool, true, false, nat_le, Option, Some, None, Result, Ok, Err, refl, sym, ap, subst, ◌∙◌, ◌⊎◌, inl, inr, arith, nat_tests, take_all, if◌then◌else◌, get}
 use Rattle.std.proofs.Common.{length-take}
 use Rattle.jass_top.proofs.Below.{Files, FileView, Mode, texts_of}
 use Rattle.text_lines.specs.Lines.{LineData, lines_of, numbered_from}
@@ -7,21 +7,22 @@ use Rattle.trec_run.specs.declared.run_line.RunLine.{RunLine}
 use Rattle.trec_run.specs.declared.run_line.RunWhy.{RunWhy}
 use Rattle.trec_run.specs.declared.run_line.RunFault.{RunFault}
 use Rattle.trec_run.specs.declared.run_line.RunFault.TheVariants as faults
-use Rattle.trec_run.specs.Runs.{at_line, number_of, read_line, read_lines, run_of, has_bytes, ◌>>=◌}
+use Rattle.trec_run.specs.Runs.{IsRun, at_line, number_of, read_line, read_lines, run_of, has_bytes, ◌>>=◌}
+use Rattle.jass_top.specs.declared.stop.Place.{Place}
 use Rattle.jass_top.specs.declared.stop.Place.TheVariants.{Line}
 use Rattle.jass_top.specs.declared.stop.Stop.{Stop}
 use Rattle.jass_top.specs.declared.audit.Audited.{Audited}
-use Rattle.jass_top.specs.AuditMeaning.{AuditInputs, auditable, judge_audit, judge_audited, judge_run, judged_run}
+use Rattle.jass_top.specs.AuditMeaning.{AuditInputs, IsRefusedRun, auditable, judge_audit, judge_audited, judge_run, judged_run}
 use Rattle.jass_top.specs.IndexJudging.{judge_index}
-use Rattle.jass_top.specs.Judging.{Accepted, Judged, Refuses, Shows, Untold, behind, judge_content}
+use Rattle.jass_top.specs.Judging.{Accepted, Judged, Missing, Refuses, Shows, Untold, behind, judge_content, judged_there}
 use Rattle.jass_top.specs.QueryJudging.{judge_queries, without_lines}
 use Rattle.jass_top.specs.SearchMeaning.{SearchInputs, judge_search}
 use Rattle.jass_top.specs.Private.Audits.{AreAudited}
 use Rattle.jass_top.specs.Private.Causes.{Unheld, Unread}
 use Rattle.jass_top.specs.Private.Inputs.{AcceptsSuch, HasInput}
 use Rattle.jass_top.specs.Private.SearchRuns.{asked_of}
-use Rattle.jass_top.proofs.Behind.{behind_told, shown_then, unread_before, unread_behind, unread_first, unread_then}
-use Rattle.jass_top.proofs.Judged.{content_told}
+use Rattle.jass_top.proofs.Behind.{behind_found, behind_told, shown_then, unread_before, unread_behind, unread_first, unread_then}
+use Rattle.jass_top.proofs.Judged.{content_found, content_only, content_told}
 use Rattle.jass_top.proofs.JudgedFiles.{index_told}
 use Rattle.jass_top.proofs.JudgedQueries.{queries_told}
 
@@ -42,6 +43,14 @@ sized_told name content is = at (nat_le (length content) (2 ^ 32)) is
     at : (b : Bool) → (if b then Accepted content else Refuses name 82 (Line 0)) ≢ Untold
     at true is = cc
     at false is = cc
+
+sized_found : (name there content : List ℕ) → auditable name there ≡ Accepted content → (there ≡ content) × (length content ≤ 2 ^ 32)
+unfolding auditable
+sized_found name there content is = at (nat_le (length there) (2 ^ 32)) refl is
+  where
+    at : (b : Bool) → nat_le (length there) (2 ^ 32) ≡ b → (if b then Accepted there else Refuses name 82 (Line 0)) ≡ Accepted content → (there ≡ content) × (length content ≤ 2 ^ 32)
+    at true fits is = (let same : there ≡ content = cc in (same, grind (arith, nat_tests, fits, ap length same)))
+    at false long is = cc
 
 -- a front of one byte more is as long as the content, or too long as this is
 module _ (name row : List ℕ) (told : Option Files) (had : AcceptsSuch (judge_content name told) (λ content. row ≡ take 4294967297 content)) where
@@ -119,16 +128,16 @@ text_untold name = refl
 -- ---- all inputs
 
 module _ (index queries run reports : List ℕ) (mode : Mode) where
-  abbrev lines_in : Option Files → Judged (List RunLine)
+  abbrev pub lines_in : Option Files → Judged (List RunLine)
   lines_in told = behind (judge_audited run told) (judge_run run)
 
-  abbrev with_text : SearchInputs → List RunLine → List ℕ → Judged AuditInputs
+  abbrev pub with_text : SearchInputs → List RunLine → List ℕ → Judged AuditInputs
   with_text asked lines text = Accepted (record { index = asked.index; queries = asked.queries; run = lines; reports = text })
 
-  abbrev with_lines : Option Files → SearchInputs → List RunLine → Judged AuditInputs
+  abbrev pub with_lines : Option Files → SearchInputs → List RunLine → Judged AuditInputs
   with_lines told asked lines = behind (judge_audited reports told) (with_text asked lines)
 
-  abbrev with_search : Option Files → SearchInputs → Judged AuditInputs
+  abbrev pub with_search : Option Files → SearchInputs → Judged AuditInputs
   with_search told asked = behind (lines_in told) (with_lines told asked)
 
   untold_lines : (told : Option Files) (asked : SearchInputs) → judge_search index queries mode told ≡ Untold → with_search told asked ≡ Untold
@@ -172,3 +181,53 @@ module _ (index queries run reports : List ℕ) (mode : Mode) where
               shown_then (judge_audited reports told) audited.reports (with_text asked.input audited.run) (Accepted inputs) text (inr refl)));
           holds = record { index = asked.holds.0; queries = asked.holds.1; run = refl; reports = refl };
         }
+
+-- ---- what is accepted, and what isn't
+
+pub text_found : (name content : List ℕ) (files : Files) → judge_audited name (Some files) ≡ Accepted content → (get files name ≡ Some content) × (length content ≤ 2 ^ 32)
+text_found name content files is =
+    let (there, found, sized) = behind_found (judge_content name (Some files)) (auditable name) content is in
+    let here : get files name ≡ Some there = content_found name files there found in
+    let fits = sized_found name there content sized in
+    (here ∙ ap Some fits.0, fits.1)
+
+pub text_long : (name content : List ℕ) (files : Files) → get files name ≡ Some content → 2 ^ 32 < length content → judge_audited name (Some files) ≡ Refuses name 82 (Line 0)
+text_long name content files there long = ap (λ j. behind j (auditable name)) (content_only name files content there) ∙ long_text name content long
+
+pub text_missed : (name : List ℕ) (files : Files) → get files name ≡ None → judge_audited name (Some files) ≡ Missing name
+unfolding judge_content
+text_missed name files none = ap (λ o. behind (judged_there name o) (auditable name)) none
+
+pub run_found : ((text : List ℕ) (runs : List RunLine) → run_of text ≡ Ok runs → IsRun text runs) → (name text : List ℕ) (lines : List RunLine) → judge_run name text ≡ Accepted lines → IsRun text lines
+unfolding judge_run
+run_found law name text lines is = at (run_of text) refl is
+  where
+    at : (read : Result (List RunLine) RunFault) → run_of text ≡ read → judged_run name read ≡ Accepted lines → IsRun text lines
+    at (Ok runs) read is = (let same : runs ≡ lines = cc in subst (IsRun text) same (law text runs read))
+    at (Err (faults.Refused line why)) read is = cc
+    at (Err faults.NoMemory) read is = cc
+
+pub run_only : ((text : List ℕ) (runs : List RunLine) → IsRun text runs → run_of text ≡ Ok runs) → (name text : List ℕ) (lines : List RunLine) → IsRun text lines → judge_run name text ≡ Accepted lines
+run_only law name text lines is = run_read name text lines (law text lines is)
+
+pub run_first : (name other text : List ℕ) (number : ℕ) (place : Place) → judge_run name text ≡ Refuses other number place → (other ≡ name) × IsRefusedRun text number place
+unfolding judge_run
+run_first name other text number place is = at (run_of text) refl is
+  where
+    at : (read : Result (List RunLine) RunFault) → run_of text ≡ read → judged_run name read ≡ Refuses other number place → (other ≡ name) × IsRefusedRun text number place
+    at (Ok runs) read is = cc
+    at (Err (faults.Refused line why)) read is =
+        let same : other ≡ name = cc in
+        let numbered : number ≡ number_of why = cc in
+        let placed : place ≡ Line line = cc in
+        (same, record { line = line; why = why; first = read; numbered = numbered; placed = placed })
+    at (Err faults.NoMemory) read is = cc
+
+pub run_there : (name other text : List ℕ) → judge_run name text ≢ Missing other
+unfolding judge_run
+run_there name other text is = at (run_of text) is
+  where
+    at : (read : Result (List RunLine) RunFault) → judged_run name read ≢ Missing other
+    at (Ok runs) is = cc
+    at (Err (faults.Refused line why)) is = cc
+    at (Err faults.NoMemory) is = cc

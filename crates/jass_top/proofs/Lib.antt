@@ -1,6 +1,8 @@
 mod Below
 pub mod AskedLists
 pub mod Asking
+pub mod AuditRuns
+pub mod AuditedSearch
 pub mod Behind
 pub mod EndingCauses
 pub mod Endings

@@ -1,22 +1,27 @@
 -- What `audit` means: whether a run and its reports are those of the search, as one line on the output.
-use Rattle.std.specs.Prelude.{ℕ, ◌≡◌, ◌++◌, List, [], ◌∷◌, length, nat_le, decimal, codes, Option, Result, Ok, Err, if◌then◌else◌}
+use Rattle.std.specs.Prelude.{ℕ, ◌≡◌, ◌<◌, ◌≤◌, ◌++◌, All, List, [], ◌∷◌, length, nat_le, decimal, codes, Option, Some, Result, Ok, Err, if◌then◌else◌}
+use Rattle.std.specs.FinMap.{get}
 use Rattle.jass_base.specs.Outside.{Files}
 use Rattle.jass_base.specs.declared.limits.TheConstants.{LONGEST_FILE}
 use Rattle.index_model.specs.Flat.{numbered_flat}
 use Rattle.index_model.specs.Index.{IndexData}
 use Rattle.query_reader.specs.declared.mode.Mode.{Mode}
 use Rattle.trec_run.specs.declared.run_line.RunLine.{RunLine}
+use Rattle.trec_run.specs.declared.run_line.RunWhy.{RunWhy}
 use Rattle.trec_run.specs.declared.run_line.RunFault.{RunFault}
 use Rattle.trec_run.specs.declared.run_line.RunFault.TheVariants as faults
 use Rattle.trec_run.specs.Runs.{number_of, run_of}
 use Rattle.run_audit.specs.declared.verdict.Verdict.{Verdict}
 use Rattle.run_audit.specs.declared.verdict.Verdict.TheVariants.{Yes, Report, Run}
 use Rattle.run_audit.specs.Audits.{IsAudit, SearchData, queries_postings}
+use Rattle.jass_words.specs.declared.word_limits.TheConstants.{MOST_BUDGETS}
+use Rattle.jass_words.specs.Options.{IsTag}
+use Rattle.jass_top.specs.declared.stop.Place.{Place}
 use Rattle.jass_top.specs.declared.stop.Place.TheVariants.{Line}
 use Rattle.jass_top.specs.Judging.{Judged, Accepted, Refuses, Untold, behind, judge_content}
 use Rattle.jass_top.specs.Meanings.{Output, Meaning, reading_meaning}
 use Rattle.jass_top.specs.QueryJudging.{LineQuery, without_lines}
-use Rattle.jass_top.specs.SearchMeaning.{judge_search}
+use Rattle.jass_top.specs.SearchMeaning.{IsSearchOutput, SearchInputs, judge_search, search_within}
 use Rattle.jass_top.specs.Standing.{OfOutput, StepsAlone, TextPart}
 
 -- ---- the inputs
@@ -45,6 +50,14 @@ judged_run name (Err faults.NoMemory) = Untold
 -- the text of the run of this name, by its lines that have bytes or its first refusal
 unfoldable pub judge_run : List ℕ → List ℕ → Judged (List RunLine)
 judge_run name text = judged_run name (run_of text)
+
+-- the first refusal of a text has this number and place
+pub record IsRefusedRun (text : List ℕ) (number : ℕ) (at : Place) : Type 0 where
+  pub line : ℕ
+  pub why : RunWhy
+  pub first : run_of text ≡ Err (faults.Refused line why)
+  pub numbered : number ≡ number_of why
+  pub placed : at ≡ Line line
 
 -- the index file and the queries as for a search, then the run, then the reports
 abbrev pub judge_audit : List ℕ → List ℕ → List ℕ → List ℕ → Mode → Option Files → Judged AuditInputs
@@ -83,3 +96,20 @@ audit_meaning index queries run reports search mode =
     (IsAuditOutput search) (OfOutput (IsAuditOutput search) TextPart)) {
       AtMemory = λ inputs. StepsAlone (counted_output inputs);
     }
+
+-- ---- what a search leaves
+
+-- files of these names hold the inputs of a search, an index file of which is bytes, and what the search leaves of them, of
+-- at most 2^32 bytes each; its tag and its budgets are those that words can say
+pub record HoldSearch (index queries run reports : List ℕ) (search : SearchData) (mode : Mode) (files : Files) : Type 0 where
+  pub tag : IsTag search.tag
+  pub few : length search.budgets ≤ MOST_BUDGETS
+  pub bytes : (content : List ℕ) → get files index ≡ Some content → All (λ byte. byte < 256) content
+  pub inputs : SearchInputs
+  pub accepted : judge_search index queries mode (Some files) ≡ Accepted inputs
+  pub left : Output
+  pub exact : IsSearchOutput (search_within search.k search.budgets search.tag) inputs left
+  pub run_there : get files run ≡ Some left.content
+  pub reports_there : get files reports ≡ Some left.text
+  pub short_run : length left.content ≤ LONGEST_FILE
+  pub short_reports : length left.text ≤ LONGEST_FILE

@@ -1,6 +1,6 @@
 //! Laws of what commands mean. Each function does nothing: its contract is the law.
 
-ghost use Rattle.std.specs.Prelude.{ℕ, ◌≡◌, ◌≢◌, ◌<◌, ◌⊎◌, true, false, List, All, Some, None, map, ◌≤◌, length, sum_by};
+ghost use Rattle.std.specs.Prelude.{ℕ, ◌≡◌, ◌≢◌, ◌<◌, ◌⊎◌, true, false, List, All, Some, None, codes, map, ◌≤◌, length, sum_by};
 ghost use Rattle.std.specs.FinMap.{get};
 ghost use Rattle.jass_base.specs.Ciff.{CollectionData, IsCiff};
 ghost use Rattle.jass_base.specs.Outside.{Files, Rose};
@@ -17,6 +17,11 @@ ghost use Rattle.index_version1.specs.Reading.{read_index1};
 ghost use Rattle.query_reader.specs.declared.mode.Mode.{Mode};
 ghost use Rattle.query_reader.specs.Queries as reader;
 ghost use Rattle.ranking_model.specs.Search.{QueryData, AreReportLines, AreReportsAt, prefixes_granted, search_run};
+ghost use Rattle.run_audit.specs.Audits.{SearchData};
+ghost use Rattle.trec_run.specs.declared.run_line.RunLine.{RunLine};
+ghost use Rattle.trec_run.specs.Runs.{IsRun};
+ghost use Rattle.jass_top.specs.AuditMeaning.{AuditInputs, HoldSearch, IsRefusedRun, audit_meaning, judge_audited};
+ghost use Rattle.jass_top.specs.AuditMeaning.{judge_run};
 ghost use Rattle.jass_top.specs.IndexJudging.{judge_index, judge_old, IsFirstRefusal};
 ghost use Rattle.jass_words.specs.Words.{CommandData, Serve};
 ghost use Rattle.jass_base.specs.declared.limits.TheConstants.{LONGEST_FILE};
@@ -53,8 +58,12 @@ use ranking_model::laws::{
     reports_keep_their_promises, the_grade_is_one, the_prefix_is_the_longest,
 };
 use ranking_model::prefix_laws::each_budget_has_its_prefix;
-use run_audit::laws::an_audit_has_one_verdict;
+use run_audit::laws::{
+    a_search_is_audited_with_yes, an_audit_has_one_verdict, ids_of_a_query_file_are_columns,
+    terms_of_a_query_file_can_be_asked,
+};
 use segment_codecs::laws::the_choice_is_the_first_of_the_shortest;
+use trec_run::laws::runs_are_read;
 
 /// A CIFF file is accepted exactly where it is there and its content stands for the collection. It
 /// is judged wherever contents are told: else it is missing, or its content has a first refusal.
@@ -204,6 +213,52 @@ pub fn an_import_of_an_export_is_the_index()
     an_export_keeps_the_index();
     lengths_are_known();
     the_choice_is_the_first_of_the_shortest();
+}
+
+/// Where files hold what a search leaves, beside its inputs, an audit by the same options accepts them, and says that they
+/// are what the search leaves. What else is said of them is the same.
+pub fn what_a_search_leaves_is_audited_ok()
+    ensures accepted { (index queries run reports : List ℕ) (search : SearchData) (mode : Mode) (files : Files)
+        → HoldSearch index queries run reports search mode files → (inputs : AuditInputs)
+        × ((audit_meaning index queries run reports search mode).judge (Some files) ≡ Accepted inputs) }
+    ensures ok { (index queries run reports : List ℕ) (search : SearchData) (mode : Mode) (files : Files)
+        → HoldSearch index queries run reports search mode files → (inputs : AuditInputs) (input : List ℕ)
+        (output : Output)
+        → (audit_meaning index queries run reports search mode).judge (Some files) ≡ Accepted inputs
+        → (audit_meaning index queries run reports search mode).IsOutput inputs input output
+        → output.text ≡ codes "audit ok\n" }
+{
+    index_files_are_judged();
+    query_files_are_judged();
+    terms_of_a_query_file_can_be_asked();
+    ids_of_a_query_file_are_columns();
+    a_search_is_audited_with_yes();
+    an_audit_has_one_verdict();
+}
+
+/// A file that is audited is accepted exactly where it is there with at most 2^32 bytes, a longer one refused by 82 at
+/// line 0. The text of a run is accepted exactly where it is one, as its lines that have bytes; else it has a first
+/// refusal. They are judged wherever contents are told.
+pub fn audited_files_are_judged()
+    ensures found { (name content : List ℕ) (files : Files) → judge_audited name (Some files) ≡ Accepted content
+        → (get files name ≡ Some content) × (length content ≤ LONGEST_FILE) }
+    ensures only { (name content : List ℕ) (files : Files) → get files name ≡ Some content
+        → length content ≤ LONGEST_FILE → judge_audited name (Some files) ≡ Accepted content }
+    ensures too_long { (name content : List ℕ) (files : Files) → get files name ≡ Some content
+        → LONGEST_FILE < length content → judge_audited name (Some files) ≡ Refuses name 82 (Place.Line 0) }
+    ensures missing { (name : List ℕ) (files : Files) → get files name ≡ None
+        → judge_audited name (Some files) ≡ Missing name }
+    ensures run { (name text : List ℕ) (lines : List RunLine) → judge_run name text ≡ Accepted lines
+        → IsRun text lines }
+    ensures only_run { (name text : List ℕ) (lines : List RunLine) → IsRun text lines
+        → judge_run name text ≡ Accepted lines }
+    ensures refused { (name other text : List ℕ) (number : ℕ) (at : Place)
+        → judge_run name text ≡ Refuses other number at → (other ≡ name) × IsRefusedRun text number at }
+    ensures told { (name text : List ℕ) → judge_run name text ≢ Untold }
+    ensures never_missing { (name other text : List ℕ) → judge_run name text ≢ Missing other }
+{
+    contents_are_judged();
+    runs_are_read();
 }
 
 /// What a trial leaves query by query is its summary, with a report for each query and grant, which

@@ -1,7 +1,10 @@
-use Rattle.shared_lemmas.proofs.Common.{◌≡◌, ℕ, ◌<◌, List, Err, refl, subst, inl, All, AllByRecursion, length-map}
+use Rattle.shared_lemmas.proofs.Common.{◌≡◌, ℕ, ◌<◌, List, Err, refl, sym, subst, inl, All, AllByRecursion, length-map}
 use Rattle.jass_top.proofs.Below.{QueryTerm, Query, texts_of, TermData, QueryFault, read_query_file}
 use Rattle.query_reader.specs.Queries.{QueryData}
 use Rattle.query_reader.specs.Refusals.{Fails}
+use Rattle.jass_top.specs.declared.stop.Place.TheVariants.{Line}
+use Rattle.jass_top.specs.Judging.{Refuses, Shows}
+use Rattle.jass_top.specs.QueryJudging.{judge_queries}
 use Rattle.jass_top.proofs.JudgedQueries.{queries_read, refusal_read}
 use Rattle.jass_top.proofs.queries_input.queries_in.Goals as goal
 
@@ -18,4 +21,8 @@ returns-in-Err-Refused-clause-unheld c =
     let terms : List (List ℕ) = texts_of c.args.index.now.index.terms in
     let read : read_query_file c.args.bytes.now c.args.mode terms ≡ Err c.in-Err-Refused.refusal
     = subst (λ (f : QueryFault). Fails {Y = List QueryData} f (read_query_file c.args.bytes.now c.args.mode terms)) c.in-Err-Refused.field-0-is c.in-Err-Refused.ensures.file in
-    (inl refl, refusal_read c.args.name.now c.args.bytes.now c.args.mode terms c.in-Err-Refused.refusal c.number.result read c.number.ensures)
+    (
+      inl refl,
+      subst (λ (line : ℕ). Shows (judge_queries c.args.name.now c.args.mode terms c.args.bytes.now) (Refuses c.args.name.now c.number.result (Line line))) (sym c.from.ensures)
+          (refusal_read c.args.name.now c.args.bytes.now c.args.mode terms c.in-Err-Refused.refusal c.number.result read c.number.ensures),
+    )

@@ -1,0 +1,169 @@
+-- What a search leaves is audited with a yes.
+use Rattle.shared_lemmas.proofs.Common.{◌≡◌, ◌≢◌, ◌<◌, ◌≤◌, ℕ, List, [], ◌∷◌, length, map, get_or, codes, Option, Some, Ok, refl, sym, ap, subst, ◌∙◌, arith, All, AllByRecursion, AllZip, get, is_utf8-from_IsUtf8, IsUtf8-from_ascii, IsAscii-from_all}
+use Rattle.jass_base.specs.declared.limits.TheConstants.{MOST_TIMES}
+use Rattle.jass_words.specs.Options.{IsTag}
+use Rattle.jass_top.proofs.Below.{Entry, FileView, Files, IndexData, IsFileView, IsReport, Mode, QueryData, QueryTerm, Report, numbered_flat, texts_of}
+use Rattle.index_layout.specs.View.{file_bytes}
+use Rattle.query_reader.specs.Queries as reader
+use Rattle.ranking_model.specs.Plan.{plan_of}
+use Rattle.ranking_model.specs.Postings.{AreTerms}
+use Rattle.ranking_model.specs.Search.{AreReports, IsSearchReports, prefixes_granted, search_run}
+use Rattle.trec_run.specs.declared.run_line.RunLine.{RunLine}
+use Rattle.trec_run.specs.Runs.{run_of}
+use Rattle.run_audit.specs.declared.verdict.Verdict.{Verdict}
+use Rattle.run_audit.specs.declared.verdict.Verdict.TheVariants.{Yes}
+use Rattle.run_audit.specs.Audits.{IsAskable, IsAudit, SearchData}
+use Rattle.run_audit.specs.Rows.{IsColumn, IsLastColumn, search_rows}
+use Rattle.jass_top.specs.AuditMeaning.{AuditInputs, HoldSearch, IsAuditOutput, auditable, judge_audit, judge_audited, judge_run, verdict_line}
+use Rattle.jass_top.specs.IndexJudging.{judge_index}
+use Rattle.jass_top.specs.Judging.{Accepted, Judged, behind, judge_content}
+use Rattle.jass_top.specs.Meanings.{Output}
+use Rattle.jass_top.specs.QueryJudging.{LineQuery, judge_queries, plain_query, with_lines, without_lines}
+use Rattle.jass_top.specs.SearchMeaning.{AreSearchReports, IsSearchOutput, IsSearchReport, Search, SearchInputs, judge_search, plan_over_index, search_within}
+use Rattle.jass_top.proofs.Behind.{behind_found}
+use Rattle.jass_top.proofs.Judged.{content_only}
+use Rattle.jass_top.proofs.JudgedAudit as judged
+use Rattle.jass_top.proofs.OneOutput.{OneVerdict}
+
+-- ---- what is asked
+
+tag_column : (tag : List ℕ) → IsTag tag → IsLastColumn tag
+tag_column tag is = record {
+  column = record {
+    utf8 = is_utf8-from_IsUtf8 tag (IsUtf8-from_ascii tag (IsAscii-from_all tag (λ i d inside. (let seen = is.visible i d inside in omega (arith, seen.1)))));
+    some = is.some;
+    plain = λ i d inside. (let seen = is.visible i d inside in ((λ e. omega (arith, seen.0, e)), (λ e. omega (arith, seen.0, e)), (λ e. omega (arith, seen.0, e))));
+  };
+  plain = λ i d inside. (let seen = is.visible i d inside in (λ e. omega (arith, seen.0, e)));
+}
+
+all_plain : (P : QueryData → Type 0) (asked : List reader.QueryData) → AllByRecursion (λ query. P (plain_query query)) asked → AllByRecursion P (map plain_query asked)
+all_plain P [] each = tt
+all_plain P (query ∷ asked) each = (each.0, all_plain P asked each.1)
+
+-- the laws of index files and of query files
+abbrev pub IndexesAreJudged : Type 0
+IndexesAreJudged = (name : List ℕ) (files : Files) (v : FileView) → judge_index name (Some files) ≡ Accepted v → (content : List ℕ) × (get files name ≡ Some content) × (All (λ byte. byte < 256) content → (content ≡ file_bytes v) × IsFileView v)
+
+abbrev pub QueriesAreJudged : Type 0
+QueriesAreJudged = (name : List ℕ) (mode : Mode) (terms : List (List ℕ)) (content : List ℕ) (queries : List LineQuery) → judge_queries name mode terms content ≡ Accepted queries
+    → (asked : List reader.QueryData) × reader.IsQueryFile content mode terms asked × (queries ≡ with_lines content (map plain_query asked)) × (without_lines queries ≡ map plain_query asked)
+
+abbrev pub HaveColumns : Type 0
+HaveColumns = (bytes : List ℕ) (mode : Mode) (terms : List (List ℕ)) (queries : List reader.QueryData) → reader.IsQueryFile bytes mode terms queries → AllByRecursion (λ (query : reader.QueryData). IsColumn query.id) queries
+
+abbrev pub HaveTerms : Type 0
+HaveTerms = (bytes : List ℕ) (mode : Mode) (terms : List (List ℕ)) (queries : List reader.QueryData) → reader.IsQueryFile bytes mode terms queries
+    → AllByRecursion (λ (query : reader.QueryData). AreTerms query.terms × All (λ (n : QueryTerm). n.times ≤ MOST_TIMES) query.terms) queries
+
+accepted_one : {A : Type 0} (x y : A) → (let j : Judged A = Accepted x in j) ≡ Accepted y → x ≡ y
+accepted_one x y is = cc
+
+-- the inputs of a search are a file's index, and queries that can be asked
+pub record CanBeAudited (search : SearchData) (inputs : SearchInputs) : Type 0 where
+  pub view : FileView
+  pub file : IsFileView view
+  pub index : inputs.index ≡ view.index
+  pub askable : IsAskable (without_lines inputs.queries) search
+
+module _ (indexes : IndexesAreJudged) (asked_queries : QueriesAreJudged) (columns : HaveColumns) (terms : HaveTerms) where
+  pub can_be_audited : (index queries run reports : List ℕ) (search : SearchData) (mode : Mode) (files : Files) (held : HoldSearch index queries run reports search mode files) → CanBeAudited search held.inputs
+  can_be_audited index queries run reports search mode files held =
+      let (view, indexed, rest) = behind_found (judge_index index (Some files)) _ held.inputs held.accepted in
+      let (content, there, more) = behind_found (judge_content queries (Some files)) _ held.inputs rest in
+      let (lined, read, made) = behind_found (judge_queries queries mode (texts_of view.index.terms) content) _ held.inputs more in
+      let (bytes, stored, is) = indexes index files view indexed in
+      let (asked, file, lines, same) = asked_queries queries mode (texts_of view.index.terms) content lined read in
+      let whole : record { index = view.index; queries = lined } ≡ held.inputs = accepted_one (record { index = view.index; queries = lined }) held.inputs made in
+      let queries_are : map plain_query asked ≡ without_lines held.inputs.queries = sym same ∙ ap (λ (i : SearchInputs). without_lines i.queries) whole in
+      record {
+        view = view;
+        file = (is (held.bytes bytes stored)).1;
+        index = sym (ap (λ (i : SearchInputs). i.index) whole);
+        askable = record {
+          ids = subst (AllByRecursion (λ (query : QueryData). IsColumn query.id)) queries_are (all_plain (λ (query : QueryData). IsColumn query.id) asked (columns content mode (texts_of view.index.terms) asked file));
+          terms = subst (AllByRecursion (λ (query : QueryData). AreTerms query.terms × All (λ (n : QueryTerm). n.times ≤ MOST_TIMES) query.terms)) queries_are
+              (all_plain (λ (query : QueryData). AreTerms query.terms × All (λ (n : QueryTerm). n.times ≤ MOST_TIMES) query.terms) asked (terms content mode (texts_of view.index.terms) asked file));
+          tag = tag_column search.tag held.tag;
+          few = held.few;
+        };
+      }
+
+-- ---- reports of a search are such as an audit wants
+
+module _ (index : IndexData) (search : SearchData) where
+  exact_reports : (query : QueryData) (prefixes : List ℕ) (reports : List Report) → AllZip (IsSearchReport index query search.k) prefixes reports → AllZip (λ n report. IsReport n (plan_over_index index query) search.k report) prefixes reports
+  exact_reports query [] [] are = tt
+  exact_reports query [] (report ∷ reports) are = absurd are
+  exact_reports query (n ∷ prefixes) [] are = absurd are
+  exact_reports query (n ∷ prefixes) (report ∷ reports) are = (are.0.exact, exact_reports query prefixes reports are.1)
+
+  each_exact : (queries : List QueryData) (reports : List (List Report)) → AllZip (AreSearchReports index (search_within search.k search.budgets search.tag)) queries reports
+      → AllZip (λ query these. AreReports (plan_of (length index.names) (numbered_flat index) query.terms) search.k search.budgets these) queries reports
+  each_exact [] [] are = tt
+  each_exact [] (these ∷ reports) are = absurd are
+  each_exact (query ∷ queries) [] are = absurd are
+  each_exact (query ∷ queries) (these ∷ reports) are = (exact_reports query (prefixes_granted search.budgets (plan_over_index index query)) these are.0, each_exact queries reports are.1)
+
+pub reports_printed : (search : SearchData) (inputs : SearchInputs) (left : Output) → IsSearchOutput (search_within search.k search.budgets search.tag) inputs left
+    → IsSearchReports inputs.index.names (numbered_flat inputs.index) (without_lines inputs.queries) search.k search.budgets left.text
+reports_printed search inputs left exact = record {
+  reports = exact.reports.reports;
+  each = each_exact inputs.index search (without_lines inputs.queries) exact.reports.reports exact.reports.each;
+  is = exact.reports.is;
+}
+
+-- ---- the audit
+
+-- the laws of audits
+abbrev pub RunsAreRead : Type 0
+RunsAreRead = (file : FileView) (queries : List QueryData) (search : SearchData) → IsFileView file → IsAskable queries search
+    → run_of (search_run file.index.names (numbered_flat file.index) queries search.k search.budgets search.tag) ≡ Ok (search_rows file.index.names (numbered_flat file.index) queries search.k search.budgets search.tag)
+
+abbrev pub SearchesAreRight : Type 0
+SearchesAreRight = (file : FileView) (queries : List QueryData) (search : SearchData) (run : List RunLine) (reports : List ℕ) → IsFileView file → IsAskable queries search
+    → run_of (search_run file.index.names (numbered_flat file.index) queries search.k search.budgets search.tag) ≡ Ok run
+    → IsSearchReports file.index.names (numbered_flat file.index) queries search.k search.budgets reports → IsAudit file.index.names (numbered_flat file.index) queries search run reports Yes
+
+pub text_there : (name : List ℕ) (files : Files) (content : List ℕ) → get files name ≡ Some content → length content ≤ 2 ^ 32 → judge_audited name (Some files) ≡ Accepted content
+text_there name files content there few = ap (λ j. behind j (auditable name)) (content_only name files content there) ∙ judged.short_text name content few
+
+module _ (reads : RunsAreRead) (right : SearchesAreRight) (one_verdict : OneVerdict) (index queries run reports : List ℕ) (search : SearchData) (mode : Mode) (files : Files)
+    (held : HoldSearch index queries run reports search mode files) (can : CanBeAudited search held.inputs) where
+  abbrev asked : List QueryData
+  asked = without_lines held.inputs.queries
+
+  abbrev rows_over : IndexData → List RunLine
+  rows_over i = search_rows i.names (numbered_flat i) asked search.k search.budgets search.tag
+
+  abbrev run_over : IndexData → List ℕ
+  run_over i = search_run i.names (numbered_flat i) asked search.k search.budgets search.tag
+
+  abbrev audited : AuditInputs
+  audited = record { index = held.inputs.index; queries = held.inputs.queries; run = rows_over held.inputs.index; reports = held.left.text }
+
+  read : run_of (run_over held.inputs.index) ≡ Ok (rows_over held.inputs.index)
+  read = subst (λ (i : IndexData). run_of (run_over i) ≡ Ok (rows_over i)) (sym can.index) (reads can.view asked search can.file can.askable)
+
+  lines : judged.lines_in index queries run reports mode (Some files) ≡ Accepted (rows_over held.inputs.index)
+  lines = ap (λ j. behind j (judge_run run)) (text_there run files held.left.content held.run_there held.short_run)
+      ∙ judged.run_read run held.left.content (rows_over held.inputs.index) (ap run_of held.exact.run ∙ read)
+
+  pub accepted : judge_audit index queries run reports mode (Some files) ≡ Accepted audited
+  accepted =
+      ap (λ j. behind j (judged.with_search index queries run reports mode (Some files))) held.accepted
+      ∙ ap (λ j. behind j (judged.with_lines index queries run reports mode (Some files) held.inputs)) lines
+      ∙ ap (λ j. behind j (judged.with_text index queries run reports mode held.inputs (rows_over held.inputs.index))) (text_there reports files held.left.text held.reports_there held.short_reports)
+
+  yes : IsAudit held.inputs.index.names (numbered_flat held.inputs.index) asked search (rows_over held.inputs.index) held.left.text Yes
+  yes = subst (λ (i : IndexData). run_of (run_over i) ≡ Ok (rows_over held.inputs.index) → IsSearchReports i.names (numbered_flat i) asked search.k search.budgets held.left.text
+      → IsAudit i.names (numbered_flat i) asked search (rows_over held.inputs.index) held.left.text Yes) (sym can.index)
+      (right can.view asked search (rows_over held.inputs.index) held.left.text can.file can.askable) read (reports_printed search held.inputs held.left held.exact)
+
+  pub ok : (inputs : AuditInputs) (output : Output) → judge_audit index queries run reports mode (Some files) ≡ Accepted inputs → IsAuditOutput search inputs output → output.text ≡ codes "audit ok\n"
+  ok inputs output judged_so is =
+      let same : inputs ≡ audited = accepted_one inputs audited (sym judged_so ∙ accepted) in
+      let here : IsAuditOutput search audited output = subst (λ (i : AuditInputs). IsAuditOutput search i output) same is in
+      let verdict : here.verdict ≡ Yes
+      = one_verdict held.inputs.index.names (numbered_flat held.inputs.index) asked search (rows_over held.inputs.index) held.left.text here.verdict Yes here.audit yes in
+      ap (λ (o : Output). o.text) here.whole ∙ ap verdict_line verdict
