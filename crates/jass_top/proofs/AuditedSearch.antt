@@ -1,5 +1,5 @@
 -- What a search leaves is audited with a yes.
-use Rattle.shared_lemmas.proofs.Common.{◌≡◌, ◌≢◌, ◌<◌, ◌≤◌, ℕ, List, [], ◌∷◌, length, map, get_or, codes, Option, Some, Ok, refl, sym, ap, subst, ◌∙◌, arith, All, AllByRecursion, AllZip, get, is_utf8-from_IsUtf8, IsUtf8-from_ascii, IsAscii-from_all}
+use Rattle.shared_lemmas.proofs.Common.{◌≡◌, ◌≢◌, ◌<◌, ◌≤◌, ◌^◌, ℕ, List, [], ◌∷◌, length, map, get_or, codes, Option, Some, Ok, refl, sym, ap, subst, ◌∙◌, arith, All, AllByRecursion, AllZip, get, is_utf8-from_IsUtf8, IsUtf8-from_ascii, IsAscii-from_all}
 use Rattle.jass_base.specs.declared.limits.TheConstants.{MOST_TIMES}
 use Rattle.jass_words.specs.Options.{IsTag}
 use Rattle.jass_top.proofs.Below.{Entry, FileView, Files, IndexData, IsFileView, IsReport, Mode, QueryData, QueryTerm, Report, numbered_flat, texts_of}

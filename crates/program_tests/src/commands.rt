@@ -2,6 +2,7 @@
 
 ghost use Rattle.std.specs.Prelude.{◌≡◌, ◌<◌};
 
+mod auditing;
 mod ends;
 mod indexing;
 mod rewriting;
@@ -80,6 +81,8 @@ migrate OLD NEW*\n\
 \x20   write an index file of version 1 in version 2\n\
 search INDEX QUERIES RUN* [k=K] [budget=B,..] [tag=TAG] [mode=plain|folded]\n\
 \x20   answer the queries of a file\n\
+audit INDEX QUERIES RUN REPORTS [k=K] [budget=B,..] [tag=TAG] [mode=plain|folded]\n\
+\x20   say whether a run and its reports are those of the search\n\
 serve INDEX frames=N\n\
 \x20   answer the lines of the input at a desk over an index file\n\
 trial SEED DOCS TERMS QUERIES\n\

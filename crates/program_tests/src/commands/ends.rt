@@ -8,7 +8,7 @@ use std::process::Abort;
 type End<'a> = (&'a [u8], &'a str, &'a [u64], &'a [u64], u8, &'a [u8]);
 
 /// Ends of runs over whole collections, or over none.
-const ENDS: [End<'static>; 14] = [
+const ENDS: [End<'static>; 15] = [
     (
         &[],
         "once b.ciff 3 all a",
@@ -20,6 +20,7 @@ const ENDS: [End<'static>; 14] = [
     (&ONE_TERM, "once b.ciff 0 all a", &[], &[], 2, b"word 3\n"),
     (&ONE_TERM, "search i q", &[], &[], 2, b"word 4\n"),
     (&ONE_TERM, "search i q i", &[], &[], 2, b"word 4\n"),
+    (&ONE_TERM, "audit i q r r", &[], &[], 2, b"word 5\n"),
     (&ONE_TERM, "", &[], &[], 2, b"word 1\n"),
     (&ONE_TERM, "once b.ciff 3 all", &[], &[], 2, b"word 5\n"),
     (&ONE_TERM, "rewrite b.ciff b.ciff", &[], &[], 2, b"word 3\n"),

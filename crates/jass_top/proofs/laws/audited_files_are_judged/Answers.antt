@@ -18,7 +18,7 @@ pub returns-clause-run : goal.returns-clause-run
 returns-clause-run c = run_found c.runs_are_read.ensures.only
 
 pub returns-clause-only_run : goal.returns-clause-only_run
-returns-clause-only_run c = run_only c.runs_are_read.ensures.run'
+returns-clause-only_run c = run_only c.runs_are_read.ensures.run
 
 pub returns-clause-refused : goal.returns-clause-refused
 returns-clause-refused c = run_first
