@@ -144,7 +144,11 @@ fn put_verdict<O: Sink>(out: &mut O, verdict: Verdict) -> Result<(), WriteFault>
         Verdict::Yes => put_all(out, &[b"audit ok\n"]),
         Verdict::Report { line } => put_all(
             out,
-            &[b"audit no report line ", digits.format(line).as_bytes(), b"\n"],
+            &[
+                b"audit no report line ",
+                digits.format(line).as_bytes(),
+                b"\n",
+            ],
         ),
         Verdict::Run { line } => put_all(
             out,

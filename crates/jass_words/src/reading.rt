@@ -8,8 +8,8 @@ ghost use Rattle.jass_words.specs.Private.Reading.{ReadsAs};
 use crate::command::Command;
 use crate::names::Name;
 use crate::readers::{
-    read_audit, read_check, read_export, read_help, read_import, read_migrate, read_once, read_rewrite,
-    read_search, read_serve, read_trial, read_version,
+    read_audit, read_check, read_export, read_help, read_import, read_migrate, read_once,
+    read_rewrite, read_search, read_serve, read_trial, read_version,
 };
 use crate::word_fault::WordFault;
 

@@ -16,8 +16,7 @@ Askable query = AreTerms query.terms × All (λ (n : QueryTerm). n.times ≤ MOS
 
 one_askable : (mode : Mode) (terms : List (List ℕ)) (text : List ℕ) (query : QueryData) → IsQuery terms (mentions_of mode text) query → Askable query
 one_askable mode terms text query is =
-    let mentions : List Mention = mentions_of mode text in
-    (
+    let mentions : List Mention = mentions_of mode text in (
       record {
         few = is.few;
         named = subst (All (λ (n : QueryTerm). 1 ≤ n.times)) (sym is.named) (named-some (term_number terms) mentions (all-count mode text));

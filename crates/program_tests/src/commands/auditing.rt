@@ -42,12 +42,47 @@ const OTHER_BOUND: &[u8] = b"\
 type Audit<'a> = (&'a [u8], &'a [u8], &'a str, u8, &'a [u8], &'a [u8]);
 
 const AUDITS: [Audit<'static>; 12] = [
-    (CAT_DOG_RUN, CAT_DOG_REPORTS, WORDS, 0, b"audit ok\n", NOTHING),
+    (
+        CAT_DOG_RUN,
+        CAT_DOG_REPORTS,
+        WORDS,
+        0,
+        b"audit ok\n",
+        NOTHING,
+    ),
     (SPACED, CAT_DOG_REPORTS, WORDS, 0, b"audit ok\n", NOTHING),
-    (OTHER_NAME, CAT_DOG_REPORTS, WORDS, 0, b"audit no run line 3\n", NOTHING),
-    (SHORTER, CAT_DOG_REPORTS, WORDS, 0, b"audit no run line 4\n", NOTHING),
-    (CAT_DOG_RUN, OTHER_BOUND, WORDS, 0, b"audit no report line 1\n", NOTHING),
-    (SHORTER, NOTHING, WORDS, 0, b"audit no report line 1\n", NOTHING),
+    (
+        OTHER_NAME,
+        CAT_DOG_REPORTS,
+        WORDS,
+        0,
+        b"audit no run line 3\n",
+        NOTHING,
+    ),
+    (
+        SHORTER,
+        CAT_DOG_REPORTS,
+        WORDS,
+        0,
+        b"audit no run line 4\n",
+        NOTHING,
+    ),
+    (
+        CAT_DOG_RUN,
+        OTHER_BOUND,
+        WORDS,
+        0,
+        b"audit no report line 1\n",
+        NOTHING,
+    ),
+    (
+        SHORTER,
+        NOTHING,
+        WORDS,
+        0,
+        b"audit no report line 1\n",
+        NOTHING,
+    ),
     (
         CAT_DOG_RUN,
         CAT_DOG_REPORTS,

@@ -31,7 +31,13 @@ pub(super) const CAT_DOG_RUN: &[u8] = b"\
 pub(super) const OLD: &[u8] = b"old";
 
 /// The files of a search: the index file of a collection, queries, and what `run` holds before it.
-pub(super) fn files_of(rt: &impl Abort, alloc: Global, ciff: &[u8], queries: &[u8], bad: Bad) -> MemCabinet {
+pub(super) fn files_of(
+    rt: &impl Abort,
+    alloc: Global,
+    ciff: &[u8],
+    queries: &[u8],
+    bad: Bad,
+) -> MemCabinet {
     let index = index_of(rt, alloc, ciff);
     let mut files = cabinet_with(
         rt,

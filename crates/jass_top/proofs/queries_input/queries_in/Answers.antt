@@ -20,8 +20,7 @@ pub returns-in-Err-Refused-clause-unheld : goal.returns-in-Err-Refused-clause-un
 returns-in-Err-Refused-clause-unheld c =
     let terms : List (List ℕ) = texts_of c.args.index.now.index.terms in
     let read : read_query_file c.args.bytes.now c.args.mode terms ≡ Err c.in-Err-Refused.refusal
-    = subst (λ (f : QueryFault). Fails {Y = List QueryData} f (read_query_file c.args.bytes.now c.args.mode terms)) c.in-Err-Refused.field-0-is c.in-Err-Refused.ensures.file in
-    (
+    = subst (λ (f : QueryFault). Fails {Y = List QueryData} f (read_query_file c.args.bytes.now c.args.mode terms)) c.in-Err-Refused.field-0-is c.in-Err-Refused.ensures.file in (
       inl refl,
       subst (λ (line : ℕ). Shows (judge_queries c.args.name.now c.args.mode terms c.args.bytes.now) (Refuses c.args.name.now c.number.result (Line line))) (sym c.from.ensures)
           (refusal_read c.args.name.now c.args.bytes.now c.args.mode terms c.in-Err-Refused.refusal c.number.result read c.number.ensures),
