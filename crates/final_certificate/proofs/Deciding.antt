@@ -22,30 +22,30 @@ use Rattle.ranking_model.proofs.Promises.{settled_is_kept}
 
 -- ---- all the documents of some scores
 
-abbrev of_scores : List ℕ → List Hit
+abbrev pub of_scores : List ℕ → List Hit
 of_scores scores = documents_from 0 scores
 
-abbrev score_at : List ℕ → ℕ → ℕ
+abbrev pub score_at : List ℕ → ℕ → ℕ
 score_at scores doc = get_or scores doc 0
 
-trues : (scores : List ℕ) → IsTrueTo (score_at scores) (of_scores scores)
+pub trues : (scores : List ℕ) → IsTrueTo (score_at scores) (of_scores scores)
 trues scores = true_from (score_at scores) 0 scores (λ i inside. ap (score_at scores) (omega arith))
 
-once : (scores : List ℕ) (d : ℕ) → count_doc d (of_scores scores) ≤ 1
+pub once : (scores : List ℕ) (d : ℕ) → count_doc d (of_scores scores) ≤ 1
 once scores d = at_most_once d 0 scores
 
-first_is : (scores : List ℕ) (k : ℕ) → first_ranked scores k ≡ front (of_scores scores) k
+pub first_is : (scores : List ℕ) (k : ℕ) → first_ranked scores k ≡ front (of_scores scores) k
 first_is scores k = ap (λ (l : List Hit). take k (sorted rank_cmp l)) (hits_documents 0 scores)
 
-first_raised : (scores : List ℕ) (gain : ℕ → ℕ) (k : ℕ) → first_documents (raised scores (gains_by gain 0 scores)) k ≡ docs (front (map (lift gain) (of_scores scores)) k)
+pub first_raised : (scores : List ℕ) (gain : ℕ → ℕ) (k : ℕ) → first_documents (raised scores (gains_by gain 0 scores)) k ≡ docs (front (map (lift gain) (of_scores scores)) k)
 first_raised scores gain k = ap docs (first_is (raised scores (gains_by gain 0 scores)) k) ∙ ap (λ (l : List Hit). docs (front l k)) (raised_documents gain 0 scores)
 
-ranked_ascends : (scores : List ℕ) → Ascends rank_cmp (ranked (of_scores scores))
+pub ranked_ascends : (scores : List ℕ) → Ascends rank_cmp (ranked (of_scores scores))
 ranked_ascends scores = sorted_ascends rank_cmp rank_total (filter is_scored (of_scores scores))
 
 -- ---- an answer whose edges are safe
 
-reach : (bound : ℕ) (xs : List Hit) (other : Hit) (ys : List Hit) → Ascends rank_cmp xs → ends_safe bound xs (Some other) ≡ true → AllByRecursion (λ u. Leads other u) ys → StaysBefore bound xs ys
+pub reach : (bound : ℕ) (xs : List Hit) (other : Hit) (ys : List Hit) → Ascends rank_cmp xs → ends_safe bound xs (Some other) ≡ true → AllByRecursion (λ u. Leads other u) ys → StaysBefore bound xs ys
 reach bound [] other ys asc safe after = tt
 reach bound (a ∷ []) other ys asc safe after =
     (all_weaker (λ u. Leads other u) (λ u. Leads a (gained bound u)) (λ u l. leads_trans a (gained bound other) (gained bound u) (safe_leads bound a other safe) (both_gain bound other u l)) ys after, tt)
@@ -53,7 +53,7 @@ reach bound (a ∷ b ∷ xs) other ys asc safe after =
     let rest = reach bound (b ∷ xs) other ys asc.1 safe after in
     (all_weaker (λ u. Leads b (gained bound u)) (λ u. Leads a (gained bound u)) (λ u l. leads_trans a b (gained bound u) asc.0.0 l) ys rest.0, rest)
 
-nothing_behind : (bound : ℕ) (xs : List Hit) → StaysBefore bound xs []
+pub nothing_behind : (bound : ℕ) (xs : List Hit) → StaysBefore bound xs []
 nothing_behind bound [] = tt
 nothing_behind bound (x ∷ xs) = (tt, nothing_behind bound xs)
 
@@ -84,7 +84,7 @@ no_zero scores is k inside = by (cases_Bool (nat_lt (position_or_len (λ score. 
   by (inl t) = let e = rw t at is in absurd (cc)
   by (inr f) = fails_before_first (λ score. score == 0) scores k 0 (let p = ltb-false _ _ f in omega arith)
 
-all_scored : (scores : List ℕ) → least_untouched scores ≡ None → filter is_unscored (of_scores scores) ≡ []
+pub all_scored : (scores : List ℕ) → least_untouched scores ≡ None → filter is_unscored (of_scores scores) ≡ []
 all_scored scores is = none (of_scores scores) (all_weaker (λ (u : Hit). (u.score ≡ score_at scores u.doc) × (u.doc < length scores)) (λ u. is_unscored u ≡ false)
     (λ u h. ap (λ n. n == 0) h.0 ∙ no_zero scores is u.doc h.1) (of_scores scores)
     (all_both (λ (u : Hit). u.score ≡ score_at scores u.doc) (λ (u : Hit). u.doc < length scores) (of_scores scores) (trues scores) (documents_below 0 (length scores) scores (omega arith))))
@@ -145,10 +145,10 @@ rule_few k bound hits runner least t = rw t refl
 rule_full : (k bound : ℕ) (hits : List Hit) (runner : Option Hit) (least : Option ℕ) → nat_lt (length hits) k ≡ false → do_documents_stay k bound hits runner least ≡ (ends_safe bound hits runner && ends_safe bound hits (unscored least))
 rule_full k bound hits runner least f = rw f refl
 
-few : (scores : List ℕ) (k : ℕ) → length (front (of_scores scores) k) ≤ k
+pub few : (scores : List ℕ) (k : ℕ) → length (front (of_scores scores) k) ≤ k
 few scores k = let n = length-take k (ranked (of_scores scores)) in omega arith
 
-before_unscored : (scores : List ℕ) (k bound : ℕ) (least : Option ℕ) → least_untouched scores ≡ least → ends_safe bound (front (of_scores scores) k) (unscored least) ≡ true → StaysBefore bound (front (of_scores scores) k) (filter is_unscored (of_scores scores))
+pub before_unscored : (scores : List ℕ) (k bound : ℕ) (least : Option ℕ) → least_untouched scores ≡ least → ends_safe bound (front (of_scores scores) k) (unscored least) ≡ true → StaysBefore bound (front (of_scores scores) k) (filter is_unscored (of_scores scores))
 before_unscored scores k bound None is safe = subst (λ l. StaysBefore bound (front (of_scores scores) k) l) (sym (all_scored scores is)) (nothing_behind bound (front (of_scores scores) k))
 before_unscored scores k bound (Some least) is safe =
     reach bound (front (of_scores scores) k) (record { doc = least; score = 0 }) (filter is_unscored (of_scores scores)) (ascends_take rank_cmp k (ranked (of_scores scores)) (ranked_ascends scores)) safe (unscored_after scores least is)
@@ -156,7 +156,7 @@ before_unscored scores k bound (Some least) is safe =
 abbrev Stays : List ℕ → ℕ → ℕ → Type 0
 Stays scores k bound = ((length (front (of_scores scores) k) ≡ k) ⊎ (others (of_scores scores) k ≡ [])) × StaysBefore bound (front (of_scores scores) k) (others (of_scores scores) k)
 
-stays_few : (scores : List ℕ) (k bound : ℕ) (least : Option ℕ) → least_untouched scores ≡ least → length (front (of_scores scores) k) < k → is_none least ≡ true → Stays scores k bound
+pub stays_few : (scores : List ℕ) (k bound : ℕ) (least : Option ℕ) → least_untouched scores ≡ least → length (front (of_scores scores) k) < k → is_none least ≡ true → Stays scores k bound
 stays_few scores k bound (Some least) is less none = absurd (true≢false (sym none))
 stays_few scores k bound None is less none =
     let n = length-take k (ranked (of_scores scores)) in
@@ -210,19 +210,19 @@ settled_at_zero scores k bound zero_is = to_settled scores k bound (λ gain smal
 
 -- ---- unsafe edges lose an answer
 
-ends_none : (bound : ℕ) (xs : List Hit) → ends_safe bound xs None ≡ true
+pub ends_none : (bound : ℕ) (xs : List Hit) → ends_safe bound xs None ≡ true
 ends_none bound [] = refl
 ends_none bound (a ∷ []) = refl
 ends_none bound (a ∷ b ∷ xs) = ends_none bound (b ∷ xs)
 
-last_unsafe : (score_of : ℕ → ℕ) (bound : ℕ) (xs : List Hit) (other : Hit) → IsTrueTo score_of xs → ends_safe bound xs (Some other) ≡ false → (a : Hit) × (a.score ≡ score_of a.doc) × (1 ≤ count_doc a.doc xs) × (is_safe bound a other ≡ false)
+pub last_unsafe : (score_of : ℕ → ℕ) (bound : ℕ) (xs : List Hit) (other : Hit) → IsTrueTo score_of xs → ends_safe bound xs (Some other) ≡ false → (a : Hit) × (a.score ≡ score_of a.doc) × (1 ≤ count_doc a.doc xs) × (is_safe bound a other ≡ false)
 last_unsafe score_of bound [] other h e = absurd (true≢false e)
 last_unsafe score_of bound (a ∷ []) other h e = (a, h.0, (let n = count_own a.doc a [] refl in omega arith), e)
 last_unsafe score_of bound (a ∷ b ∷ xs) other h e =
     let r = last_unsafe score_of bound (b ∷ xs) other h.1 e in
     (r.0, r.1, (let n = sum_by-cons (λ (h : Hit). cond (h.doc == r.0.doc) 1 0) a (b ∷ xs) in let m = r.2 in omega arith), r.3)
 
-unscored_out : (scores : List ℕ) (k least : ℕ) → least_untouched scores ≡ Some least → 1 ≤ count_doc least (others (of_scores scores) k)
+pub unscored_out : (scores : List ℕ) (k least : ℕ) → least_untouched scores ≡ Some least → 1 ≤ count_doc least (others (of_scores scores) k)
 unscored_out scores k least is =
     let a = sum_by-append (λ (h : Hit). cond (h.doc == least) 1 0) (drop k (ranked (of_scores scores))) (filter is_unscored (of_scores scores)) in
     let b = sum_by-filter is_unscored (λ (h : Hit). cond (h.doc == least) 1 0) (of_scores scores) in
@@ -252,7 +252,7 @@ head_out all k r rest is =
     let c = count_own r.doc r rest refl in
     omega arith
 
-front_true : (scores : List ℕ) (k : ℕ) → IsTrueTo (score_at scores) (front (of_scores scores) k)
+pub front_true : (scores : List ℕ) (k : ℕ) → IsTrueTo (score_at scores) (front (of_scores scores) k)
 front_true scores k = all_take (λ (h : Hit). h.score ≡ score_at scores h.doc) k (ranked (of_scores scores)) (true_ranked (score_at scores) (of_scores scores) (trues scores))
 
 last_passed : (scores : List ℕ) (k bound : ℕ) (other : Hit) → 1 ≤ bound → other.score ≡ score_at scores other.doc → 1 ≤ count_doc other.doc (others (of_scores scores) k) → ends_safe bound (front (of_scores scores) k) (Some other) ≡ false → IsKept scores k bound → ⊥

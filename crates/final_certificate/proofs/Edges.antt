@@ -22,10 +22,10 @@ Leads a b = is_gt (rank_cmp a b) ≡ false
 pub leads_trans : (a b c : Hit) → Leads a b → Leads b c → Leads a c
 leads_trans a b c h k = upto rank_total a b c h k
 
-gained_leads : (gain : ℕ) (a : Hit) → Leads (gained gain a) a
+pub gained_leads : (gain : ℕ) (a : Hit) → Leads (gained gain a) a
 gained_leads gain a = grind (arith, nat_tests)
 
-more_leads : (gain bound : ℕ) (a : Hit) → gain ≤ bound → Leads (gained bound a) (gained gain a)
+pub more_leads : (gain bound : ℕ) (a : Hit) → gain ≤ bound → Leads (gained bound a) (gained gain a)
 more_leads gain bound a small = grind (arith, nat_tests)
 
 pub both_gain : (gain : ℕ) (a b : Hit) → Leads a b → Leads (gained gain a) (gained gain b)
@@ -71,7 +71,7 @@ parted all k f =
     let d = sum_by-append f (drop k (ranked all)) (filter is_unscored all) in
     omega arith
 
-front_scored : (all : List Hit) (k : ℕ) → AllByRecursion (λ h. is_scored h ≡ true) (front all k)
+pub front_scored : (all : List Hit) (k : ℕ) → AllByRecursion (λ h. is_scored h ≡ true) (front all k)
 front_scored all k = all_take (λ h. is_scored h ≡ true) k (ranked all) (all_sorted rank_cmp (λ h. is_scored h ≡ true) (filter is_scored all) (filter_passes is_scored all))
 
 lift_scored : (gain : ℕ) (h : Hit) → is_scored h ≡ true → is_scored (gained gain h) ≡ true
@@ -84,10 +84,11 @@ map_leads gain bound small xs ys h = all_map (λ a. AllByRecursion (λ b. Leads 
     (λ a k. all_map (λ b. Leads (lift gain a) b) (lift gain) ys (all_weaker (λ b. Leads a (gained bound b)) (λ b. Leads (lift gain a) (lift gain b))
     (λ b l. leads_trans (lift gain a) a (lift gain b) (gained_leads (gain a.doc) a) (leads_trans a (gained bound b) (lift gain b) l (more_leads (gain b.doc) bound b (small b.doc)))) ys k)) xs h)
 
--- where the others stay behind, the first are the same documents in the order of their new scores
-pub keeps : (all : List Hit) (k : ℕ) (gain : ℕ → ℕ) (bound : ℕ) → ((d : ℕ) → gain d ≤ bound) → (length (front all k) ≡ k) ⊎ (others all k ≡ [])
-    → StaysBefore bound (front all k) (others all k) → front (map (lift gain) all) k ≡ sorted rank_cmp (map (lift gain) (front all k))
-keeps all k gain bound small full above = ap (take k) parts ∙ cut full where
+-- where the others come behind under some gains, the first are the same documents in the order of their new scores
+pub keeps_by : (all : List Hit) (k : ℕ) (gain : ℕ → ℕ) → (length (front all k) ≡ k) ⊎ (others all k ≡ [])
+    → AllByRecursion (λ a. AllByRecursion (λ b. Leads a b) (map (lift gain) (others all k))) (map (lift gain) (front all k))
+    → front (map (lift gain) all) k ≡ sorted rank_cmp (map (lift gain) (front all k))
+keeps_by all k gain full above = ap (take k) parts ∙ cut full where
   parts : ranked (map (lift gain) all) ≡ sorted rank_cmp (map (lift gain) (front all k)) ++ sorted rank_cmp (filter is_scored (map (lift gain) (others all k)))
   parts = sorted_parts rank_cmp rank_total rank_same is_scored (map (lift gain) all) (map (lift gain) (front all k)) (map (lift gain) (others all k)) (λ f.
       let a = sum_map f (lift gain) all in
@@ -96,7 +97,7 @@ keeps all k gain bound small full above = ap (take k) parts ∙ cut full where
       let d = parted all k (λ x. f (lift gain x)) in
       omega arith)
       (all_map (λ h. is_scored h ≡ true) (lift gain) (front all k) (all_weaker (λ h. is_scored h ≡ true) (λ h. is_scored (lift gain h) ≡ true) (λ h t. lift_scored (gain h.doc) h t) (front all k) (front_scored all k)))
-      (map_leads gain bound small (front all k) (others all k) above)
+      above
 
   size : length (sorted rank_cmp (map (lift gain) (front all k))) ≡ length (front all k)
   size = length_permutation (map (lift gain) (front all k)) (sorted rank_cmp (map (lift gain) (front all k))) (sorted_moves rank_cmp rank_total rank_same (map (lift gain) (front all k))) ∙ length-map (front all k) (lift gain)
@@ -111,6 +112,11 @@ keeps all k gain bound small full above = ap (take k) parts ∙ cut full where
       ap (λ (l : List Hit). take k (sorted rank_cmp (map (lift gain) (front all k)) ++ sorted rank_cmp (filter is_scored (map (lift gain) l)))) e
       ∙ ap (take k) (append-nil (sorted rank_cmp (map (lift gain) (front all k))))
       ∙ take_all k (sorted rank_cmp (map (lift gain) (front all k))) (let n = size in omega arith)
+
+-- the same where each of the first stays before each of the others, even where that gains the bound
+keeps : (all : List Hit) (k : ℕ) (gain : ℕ → ℕ) (bound : ℕ) → ((d : ℕ) → gain d ≤ bound) → (length (front all k) ≡ k) ⊎ (others all k ≡ [])
+    → StaysBefore bound (front all k) (others all k) → front (map (lift gain) all) k ≡ sorted rank_cmp (map (lift gain) (front all k))
+keeps all k gain bound small full above = keeps_by all k gain full (map_leads gain bound small (front all k) (others all k) above)
 
 pub docs_lift : (gain : ℕ → ℕ) (xs : List Hit) → map (λ (h : Hit). h.doc) (map (lift gain) xs) ≡ map (λ (h : Hit). h.doc) xs
 docs_lift gain [] = refl

@@ -68,6 +68,10 @@ get_or_le bound (g ∷ gains) h (suc i) = get_or_le bound gains h.1 i
 pub gain_of_doc : List ℕ → ℕ → ℕ
 gain_of_doc gains doc = get_or gains doc 0
 
+pub gain_is : (gains : List ℕ) (doc : ℕ) → gain_of_doc gains doc ≡ get_or gains doc 0
+unfolding gain_of_doc
+gain_is gains doc = refl
+
 pub gain_small : (bound : ℕ) (scores gains : List ℕ) → AreGains bound scores gains → (d : ℕ) → gain_of_doc gains d ≤ bound
 unfolding gain_of_doc
 gain_small bound scores gains a d = get_or_le bound gains a.within d

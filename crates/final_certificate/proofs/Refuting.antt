@@ -32,10 +32,10 @@ found P z (x ∷ xs) all some = by (cases_Bool (x.doc == z)) (found P z xs all.1
 abbrev pub one : ℕ → ℕ → ℕ → ℕ
 one bound z doc = cond (doc == z) bound 0
 
-one_self : (bound z : ℕ) → one bound z z ≡ bound
+pub one_self : (bound z : ℕ) → one bound z z ≡ bound
 one_self bound z = let t : (z == z) ≡ true = eq-eqb z z refl in rw t refl
 
-one_other : (bound z doc : ℕ) → doc ≢ z → one bound z doc ≡ 0
+pub one_other : (bound z doc : ℕ) → doc ≢ z → one bound z doc ≡ 0
 one_other bound z doc apart = by (cases_Bool (doc == z)) where
   by : ((doc == z) ≡ true) ⊎ ((doc == z) ≡ false) → one bound z doc ≡ 0
   by (inl t) = absurd (apart (eqb-true doc z t))
@@ -91,13 +91,13 @@ still all k bound z doc kept = sym (sum_map (λ d. cond (d == doc) 1 0) (λ (h :
     ∙ sum_by-IsPermutation (λ d. cond (d == doc) 1 0) (docs (front all k)) (docs (front (with_gain bound z all) k)) kept
     ∙ sum_map (λ d. cond (d == doc) 1 0) (λ (h : Hit). h.doc) (front all k)
 
-outside : (all : List Hit) (k z : ℕ) → ((d : ℕ) → count_doc d all ≤ 1) → 1 ≤ count_doc z (others all k) → count_doc z (front all k) ≡ 0
+pub outside : (all : List Hit) (k z : ℕ) → ((d : ℕ) → count_doc d all ≤ 1) → 1 ≤ count_doc z (others all k) → count_doc z (front all k) ≡ 0
 outside all k z once there = let sum = parted all k (λ (h : Hit). cond (h.doc == z) 1 0) in let few = once z in omega arith
 
 inside : (all : List Hit) (k z : ℕ) → 1 ≤ count_doc z (others all k) → 1 ≤ count_doc z all
 inside all k z there = let sum = parted all k (λ (h : Hit). cond (h.doc == z) 1 0) in omega arith
 
-same_hit : (g h : Hit) → g.doc ≡ h.doc → g.score ≡ h.score → g ≡ h
+pub same_hit : (g h : Hit) → g.doc ≡ h.doc → g.score ≡ h.score → g ≡ h
 same_hit g h d s = λ i. record { doc = d i; score = s i }
 
 -- where the documents are kept, one of them is safe from each other document
@@ -167,7 +167,7 @@ read_back score_of (x ∷ xs) (y ∷ ys) a b same =
     let rest = read_back score_of xs ys a.1 b.1 ds in
     λ i. first i ∷ rest i
 
-order_read : (all : List Hit) (score_of : ℕ → ℕ) → IsTrueTo score_of all → (k bound z : ℕ) → docs (front (with_gain bound z all) k) ≡ docs (front all k) → Ascends rank_cmp (map (lift (one bound z)) (front all k))
+pub order_read : (all : List Hit) (score_of : ℕ → ℕ) → IsTrueTo score_of all → (k bound z : ℕ) → docs (front (with_gain bound z all) k) ≡ docs (front all k) → Ascends rank_cmp (map (lift (one bound z)) (front all k))
 order_read all score_of true_all k bound z same = subst (Ascends rank_cmp)
     (read_back (λ d. score_of d + one bound z d) (front (with_gain bound z all) k) (map (lift (one bound z)) (front all k))
     (all_take (λ (h : Hit). h.score ≡ score_of h.doc + one bound z h.doc) k (ranked (with_gain bound z all)) (true_ranked (λ d. score_of d + one bound z d) (with_gain bound z all) (true_lift score_of (one bound z) all true_all)))

@@ -69,7 +69,7 @@ in_sorted cmp z [] h = h
 in_sorted cmp z (x ∷ xs) (inl e) = in_placed cmp z x (sorted cmp xs) (inl e)
 in_sorted cmp z (x ∷ xs) (inr there) = in_placed cmp z x (sorted cmp xs) (inr (in_sorted cmp z xs there))
 
-in_part : {A : Type 0} (z : A) (n : ℕ) (xs : List A) → In z xs → In z (take n xs) ⊎ In z (drop n xs)
+pub in_part : {A : Type 0} (z : A) (n : ℕ) (xs : List A) → In z xs → In z (take n xs) ⊎ In z (drop n xs)
 in_part z n [] h = absurd h
 in_part z zero (x ∷ xs) h = inr h
 in_part z (suc n) (x ∷ xs) (inl e) = inl (inl e)

@@ -22,7 +22,7 @@ use Rattle.ranking_model.proofs.Weighing.{weigh, none_left}
 abbrev one_at : ℕ → ℕ → WeightedPosting → ℕ
 one_at doc term_place p = cond (p.term_place == term_place && p.doc == doc) 1 0
 
-abbrev count_at : ℕ → ℕ → PlanSegment → ℕ
+abbrev pub count_at : ℕ → ℕ → PlanSegment → ℕ
 count_at doc term_place c = cond (c.term_place == term_place) (count_by (λ d. d == doc) c.docs) 0
 
 at_first : (doc term_place : ℕ) (p : WeightedPosting) → count_at doc term_place (begun p) ≡ one_at doc term_place p
@@ -92,10 +92,10 @@ segments_once doc term_place terms flat p =
 
 -- ---- what a place adds
 
-abbrev gain_at : ℕ → ℕ → PlanSegment → ℕ
+abbrev pub gain_at : ℕ → ℕ → PlanSegment → ℕ
 gain_at doc term_place c = cond (c.term_place == term_place) (gain_of doc c) 0
 
-none_at : (doc term_place : ℕ) (cs : List PlanSegment) → sum_by (count_at doc term_place) cs ≡ 0 → sum_by (gain_at doc term_place) cs ≡ 0
+pub none_at : (doc term_place : ℕ) (cs : List PlanSegment) → sum_by (count_at doc term_place) cs ≡ 0 → sum_by (gain_at doc term_place) cs ≡ 0
 none_at doc term_place [] h = refl
 none_at doc term_place (c ∷ cs) h = by (cases_Bool (c.term_place == term_place)) (none_at doc term_place cs) where
   parts : count_at doc term_place c + sum_by (count_at doc term_place) cs ≡ 0
@@ -110,7 +110,7 @@ none_at doc term_place (c ∷ cs) h = by (cases_Bool (c.term_place == term_place
   by (inr e) rest = let split = rw e at parts in let later = rest (omega arith) in sum_by-cons (gain_at doc term_place) c cs ∙ rw e (omega arith)
 
 -- in a place that has the document once, it gains at most the place's greatest weight
-place_gain : (doc term_place : ℕ) (cs : List PlanSegment) → sum_by (count_at doc term_place) cs ≤ 1 → sum_by (gain_at doc term_place) cs ≤ greatest_weight term_place cs
+pub place_gain : (doc term_place : ℕ) (cs : List PlanSegment) → sum_by (count_at doc term_place) cs ≤ 1 → sum_by (gain_at doc term_place) cs ≤ greatest_weight term_place cs
 place_gain doc term_place [] h = omega arith
 place_gain doc term_place (c ∷ cs) h = by (cases_Bool (c.term_place == term_place)) (place_gain doc term_place cs) where
   parts : count_at doc term_place c + sum_by (count_at doc term_place) cs ≤ 1
@@ -132,7 +132,7 @@ sum_zero : {A : Type 0} (xs : List A) → sum_by (λ x. 0) xs ≡ 0
 sum_zero [] = refl
 sum_zero (x ∷ xs) = sum_by-cons (λ x. 0) x xs ∙ (let rest = sum_zero xs in omega arith)
 
-sum_plus : {A : Type 0} (f g : A → ℕ) (xs : List A) → sum_by (λ x. f x + g x) xs ≡ sum_by f xs + sum_by g xs
+pub sum_plus : {A : Type 0} (f g : A → ℕ) (xs : List A) → sum_by (λ x. f x + g x) xs ≡ sum_by f xs + sum_by g xs
 sum_plus f g [] = refl
 sum_plus f g (x ∷ xs) = omega (arith, sum_by-cons (λ x. f x + g x) x xs, sum_by-cons f x xs, sum_by-cons g x xs, sum_plus f g xs)
 
@@ -162,7 +162,7 @@ single at x (suc n) = by (cases_lt at n) (cases_eq at n) (single at x n) where
       let c : (at == n) ≡ false = grind (arith, nat_tests) in
       grown ∙ rw (rest, a, b, c) (omega arith)
 
-by_place : (doc terms : ℕ) (cs : List PlanSegment) → AllByRecursion (λ c. c.term_place < terms) cs → sum_by (gain_of doc) cs ≡ sum_by (λ term_place. sum_by (gain_at doc term_place) cs) (range_with_len 0 terms)
+pub by_place : (doc terms : ℕ) (cs : List PlanSegment) → AllByRecursion (λ c. c.term_place < terms) cs → sum_by (gain_of doc) cs ≡ sum_by (λ term_place. sum_by (gain_at doc term_place) cs) (range_with_len 0 terms)
 by_place doc terms [] h = sym (sum_zero (range_with_len 0 terms))
 by_place doc terms (c ∷ cs) h =
     let within : nat_lt c.term_place terms ≡ true = (let less = h.0 in grind (arith, nat_tests)) in
@@ -184,22 +184,22 @@ in_places from (named ∷ terms) flat = both (filter (λ e. e.term == named.term
   both [] rest = rest
   both (e ∷ es) rest = (omega arith, both es rest)
 
+-- the places of a plan's segments are those of its terms
+pub places_inside : (terms : List QueryTerm) (flat : List (Entry ℕ)) → AllByRecursion (λ c. c.term_place < length terms) (plan_segments (weighted_postings flat terms))
+places_inside terms flat = segments_all (λ c. c.term_place < length terms) (λ p. p.term_place < length terms) (λ p h. h) (λ c p e h k. h) (weighted_postings flat terms) (from_zero _ (in_places 0 terms flat)) where
+  from_zero : (ps : List WeightedPosting) → AllByRecursion (λ p. p.term_place < 0 + length terms) ps → AllByRecursion (λ p. p.term_place < length terms) ps
+  from_zero [] h = tt
+  from_zero (p ∷ ps) h = (let less = h.0 in omega arith, from_zero ps h.1)
+
 -- what a document has among the unscored segments is at most the bound
 rest_within : (doc docs n : ℕ) (terms : List QueryTerm) (flat : List (Entry ℕ)) → IsFlat nat_cmp docs flat → sum_by (gain_of doc) (drop n (plan_segments (weighted_postings flat terms))) ≤ bound_after n (plan_of docs flat terms)
 unfolding plan_of
 rest_within doc docs n terms flat f =
-    rw (by_place doc (length terms) (drop n segments) (all_drop (λ c. c.term_place < length terms) n segments inside))
+    rw (by_place doc (length terms) (drop n segments) (all_drop (λ c. c.term_place < length terms) n segments (places_inside terms flat)))
     (sum_by-le-sum_by (λ term_place. sum_by (gain_at doc term_place) (drop n segments)) (λ term_place. greatest_weight term_place (drop n segments)) (range_with_len 0 (length terms)) (λ term_place. place_gain doc term_place (drop n segments) (few term_place)))
   where
     segments : List PlanSegment
     segments = plan_segments (weighted_postings flat terms)
-
-    from_zero : (ps : List WeightedPosting) → AllByRecursion (λ p. p.term_place < 0 + length terms) ps → AllByRecursion (λ p. p.term_place < length terms) ps
-    from_zero [] h = tt
-    from_zero (p ∷ ps) h = (let less = h.0 in omega arith, from_zero ps h.1)
-
-    inside : AllByRecursion (λ c. c.term_place < length terms) (plan_segments (weighted_postings flat terms))
-    inside = segments_all (λ c. c.term_place < length terms) (λ p. p.term_place < length terms) (λ p h. h) (λ c p e h k. h) (weighted_postings flat terms) (from_zero _ (in_places 0 terms flat))
 
     few : (term_place : ℕ) → sum_by (count_at doc term_place) (drop n (plan_segments (weighted_postings flat terms))) ≤ 1
     few term_place =
@@ -208,11 +208,11 @@ rest_within doc docs n terms flat f =
 
 -- ---- as lists over all documents
 
-raised_map : (f g : ℕ → ℕ) (xs : List ℕ) → raised (map f xs) (map g xs) ≡ map (λ x. f x + g x) xs
+pub raised_map : (f g : ℕ → ℕ) (xs : List ℕ) → raised (map f xs) (map g xs) ≡ map (λ x. f x + g x) xs
 raised_map f g [] = refl
 raised_map f g (x ∷ xs) = ap (λ l. (f x + g x) ∷ l) (raised_map f g xs)
 
-same_length : (f g : ℕ → ℕ) (xs : List ℕ) → length (map g xs) ≡ length (map f xs)
+pub same_length : (f g : ℕ → ℕ) (xs : List ℕ) → length (map g xs) ≡ length (map f xs)
 same_length f g [] = refl
 same_length f g (x ∷ xs) = ap suc (same_length f g xs)
 

@@ -1,0 +1,7 @@
+pub mod Unseen
+pub mod Sharpness
+pub mod Out
+pub mod Rule
+pub mod Examples
+pub mod Masks
+pub mod Private
