@@ -1,10 +1,12 @@
 -- Pages that stand in a pool.
 use Rattle.shared_lemmas.proofs.Common.{◌≡◌, ◌≢◌, ℕ, suc, zero, true, not, cond, ◌==◌, ◌+◌, ◌/◌, ◌%◌, ◌<◌, ◌≤◌, min, List, [], ◌∷◌, map, length, get_or, set, replicate, count_by, Option, Some, None, refl, sym, ap, ◌∙◌, subst, inl, inr, arith, get_or-set_same, get_or_past, length-replicate}
 use Rattle.shared_lemmas.proofs.Common.{get_or-replicate, get_or_read, cases_lt, div_ceil, range_with_len, eqb_tells, sum_by-replicate, length-map-range_with_len, get_or-map-range_with_len}
+use Rattle.shared_lemmas.proofs.Common.{get_or-set_other, length-set, ne_eqb}
+use Rattle.std.proofs.lemmas.List.Sums.{sum_by-set}
 use Rattle.std.proofs.Common.{Bool, false, if◌then◌else◌, is_some, option_map, find}
 use Rattle.shared_lemmas.proofs.Places.{in_range}
-use Rattle.frame_pool.specs.Pool.{PoolView, FrameContent}
-use Rattle.frame_pool.specs.ChainView.{ChainView, HasPage, HeldFrame, KeepsFrames, LeavesOthers, frame_with_page, number_with_page, slot_value, view_values, view_scores}
+use Rattle.frame_pool.specs.Pool.{PoolView, FrameContent, cleared}
+use Rattle.frame_pool.specs.ChainView.{ChainView, HasPage, HeldFrame, KeepsFrames, LeavesOthers, frame_with_page, number_with_page, slot_value, view_values, view_scores, with_first_held}
 use Rattle.frame_pool.proofs.Pages.{none_found}
 use Rattle.accumulator_pages.specs.Adding.{page_count, touched_pages, page_is_touched}
 use Rattle.accumulator_pages.specs.declared.pages.Pages.{Pages}
@@ -71,6 +73,34 @@ has_room table docs view page more stands inside some room lacks =
 pub room_left : (docs frames frames' more more' promise promise' : ℕ) → min (page_count docs) (frames + more) ≤ promise → frames' + more' ≤ frames + more → promise' ≡ promise
     → min (page_count docs) (frames' + more') ≤ promise'
 room_left docs frames frames' more more' promise promise' room fewer same = omega arith
+
+-- ---- a frame more, for a page that had none
+
+pub frame_taken : (table : List ℕ) (docs : ℕ) (view : ChainView) (page number : ℕ) → TableStands table docs view → page < length table → get_or table page 0 ≡ no_frame → number < 1048576
+    → TableStands (set table page number) docs (with_first_held view number (cleared page))
+frame_taken table docs view page number stands inside vacant small =
+    let some : (number == no_frame) ≡ false = ne_eqb number no_frame (λ is. absurd (omega (arith, is, small))) in
+    record {
+      covers = length-set table page number ∙ stands.covers;
+      entries = λ other within. elim (eqb_tells page other) as (λ _. number_with_page (with_first_held view number (cleared page)) other ≡ frame_of_entry (get_or (set table page number) other 0)) [
+        | inl same ↦
+            ap (λ b. option_map (λ (h : HeldFrame). h.number) (cond b (Some (record { number = number; content = cleared page })) (frame_with_page view other))) same.0
+            ∙ sym (ap (λ b. cond b None (Some number)) some)
+            ∙ sym (ap frame_of_entry (ap (λ j. get_or (set table page number) j 0) (sym same.1) ∙ get_or-set_same table page number 0 inside))
+        | inr differ ↦
+            ap (λ b. option_map (λ (h : HeldFrame). h.number) (cond b (Some (record { number = number; content = cleared page })) (frame_with_page view other))) differ.0
+            ∙ stands.entries other (omega (arith, within, length-set table page number))
+            ∙ sym (ap frame_of_entry (get_or-set_other table page other number 0 (λ e. differ.1 (sym e))))
+      ];
+      frames = omega (
+        arith,
+        stands.frames,
+        length-set table page number,
+        sum_by-set (λ (e : ℕ). cond (e == no_frame) 1 0) table page number 0 inside,
+        ap {B = ℕ} (λ (e : ℕ). cond (e == no_frame) 1 0) vacant,
+        ap {B = ℕ} (λ b. cond b 1 0) some,
+      );
+    }
 
 -- ---- after an addition
 

@@ -1,3 +1,4 @@
 pub mod Adding
+pub mod View
 pub mod Pages
 pub mod Reached

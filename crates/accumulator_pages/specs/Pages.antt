@@ -27,10 +27,15 @@ pages_scores pages pool = view_scores (docs_of pages) (own_view pages pool)
 abbrev pub pages_places : Pages → PoolView → List ℕ
 pages_places pages pool = view_places (docs_of pages) (own_view pages pool)
 
--- the pages of one chain, for as many documents
+-- for how many entries the table has room
+abbrev pub table_room : Pages → ℕ
+table_room pages = pages.room
+
+-- the pages of one chain, for as many documents, with as much room
 pub record ArePagesOf (old new : Pages) : Type 0 where
   pub chain : own_chain new ≡ own_chain old
   pub docs : docs_of new ≡ docs_of old
+  pub room : table_room new ≡ table_room old
 
 -- ---- room for frames
 
@@ -58,9 +63,9 @@ pub record TableStands (table : List ℕ) (docs : ℕ) (view : ChainView) : Type
   pub entries : (page : ℕ) → page < length table → number_with_page view page ≡ frame_of_entry (slice_index table page)
   pub frames : length view.frames + count_by (λ entry. entry == no_frame) table ≡ length table
 
--- the fields of pages tell what their chain holds
-pub record FieldsStand (pages : Pages) (view : ChainView) : Type 0 where
-  pub table : TableStands pages.table.items pages.docs view
+-- what is seen of pages tells what their chain holds
+pub record TellsChain (pages : Pages) (view : ChainView) : Type 0 where
+  pub table : TableStands pages.table pages.docs view
   pub frames : pages.frames ≡ length view.frames
 
 -- a page has a touched document
@@ -71,10 +76,10 @@ HasTouched scores page = (doc : ℕ) × (doc / 256 ≡ page) × (0 < slice_index
 abbrev pub AreUsed : List ℕ → List ℕ → Type 0
 AreUsed table scores = (page : ℕ) → page < length table → slice_index table page ≢ no_frame → HasTouched scores page
 
--- the fields of pages tell what their chain holds, and each page with a frame has a touched document
+-- the pages tell what their chain holds, and each page with a frame has a touched document
 pub record PagesStand (pages : Pages) (view : ChainView) : Type 0 where
-  pub fields : FieldsStand pages view
-  pub used : AreUsed pages.table.items (view_scores pages.docs view)
+  pub fields : TellsChain pages view
+  pub used : AreUsed pages.table (view_scores pages.docs view)
 
 -- the pages stand in the pool: nothing is read of it but their own chain
 pub record Stands (pages : Pages) (pool : PoolView) : Type 0 where

@@ -4,7 +4,7 @@ ghost use Rattle.frame_pool.specs.Pool.{PoolView, IsInUse};
 ghost use Rattle.frame_pool.specs.ChainView.{HasPage, LeavesPool, chain_view};
 ghost use Rattle.lane_kernels.specs.Bitmap.{set_bits};
 ghost use Rattle.accumulator_pages.specs.Adding.{added, crossed, raised, touched_count, touched_pages};
-ghost use Rattle.accumulator_pages.specs.Pages.{ArePagesOf, FieldsStand, HasRoom, HasRoomFor, Stands, docs_of, frame_of_entry, no_frame, own_chain, own_view, pages_places, pages_scores};
+ghost use Rattle.accumulator_pages.specs.Pages.{ArePagesOf, HasRoom, HasRoomFor, Stands, TellsChain, docs_of, frame_of_entry, no_frame, own_chain, own_view, pages_places, pages_scores};
 
 use crate::near::near_bits;
 use crate::reached::Reached;
@@ -13,6 +13,7 @@ use frame_pool::{Chain, FrameId, FramePool};
 use jass_base::{Hit, NoMemory};
 use lane_kernels::{add_where, bits_to_docs, first_zero};
 use std::alloc::Global;
+use std::marker::Model;
 
 /// The documents of a page.
 const PAGE_DOCS: u32 = 256;
@@ -30,6 +31,23 @@ pub struct Pages {
     table: Vec<u32>,
     docs: u32,
     frames: u32,
+}
+
+impl Model for Pages {
+    ghost use Rattle.std.specs.Prelude.{◌<◌, ◌^◌, vec_capacity};
+    ghost use Rattle.accumulator_pages.specs.View.{PagesView};
+
+    ghost Value = { PagesView };
+
+    ghost view = { λ p. record {
+      chain = p.chain;
+      docs = p.docs;
+      table = p.table.items;
+      room = vec_capacity p.table;
+      frames = p.frames;
+    } };
+
+    ghost invariant = { λ p. p.docs < 2 ^ 32 };
 }
 
 impl Pages {
@@ -318,16 +336,16 @@ impl Pages {
     /// The frame of a page, which is taken where the page has none.
     fn frame_of(&mut self, pool: &mut FramePool, page: u32) -> FrameId
         requires own { IsInUse pool.old (own_chain self.old) }
-        requires fields { FieldsStand self.old (own_view self.old pool.old) }
-        requires inside { page < length self.old.table.items }
+        requires fields { TellsChain self.old (own_view self.old pool.old) }
+        requires inside { page < length self.old.table }
         requires room { HasRoom (own_view self.old pool.old) page }
         ensures has { HasPage (own_view self.new pool.new) page result.number }
         ensures scores { pages_scores self.new pool.new ≡ pages_scores self.old pool.old }
         ensures places { pages_places self.new pool.new ≡ pages_places self.old pool.old }
         ensures frames { length (own_view self.new pool.new).frames ≤ length (own_view self.old pool.old).frames + 1 }
-        ensures fields { FieldsStand self.new (own_view self.new pool.new) }
+        ensures fields { TellsChain self.new (own_view self.new pool.new) }
         ensures entries { (other : ℕ) → other ≢ page
-            → slice_index self.new.table.items other ≡ slice_index self.old.table.items other }
+            → slice_index self.new.table other ≡ slice_index self.old.table other }
         ensures same { ArePagesOf self.old self.new }
         ensures own { IsInUse pool.new (own_chain self.new) }
         ensures leaves { LeavesPool pool.old pool.new (own_chain self.old) }
@@ -342,17 +360,17 @@ impl Pages {
     #[inline(never)]
     fn take_frame(&mut self, pool: &mut FramePool, page: u32) -> FrameId
         requires own { IsInUse pool.old (own_chain self.old) }
-        requires fields { FieldsStand self.old (own_view self.old pool.old) }
-        requires inside { page < length self.old.table.items }
-        requires vacant { slice_index self.old.table.items page ≡ no_frame }
+        requires fields { TellsChain self.old (own_view self.old pool.old) }
+        requires inside { page < length self.old.table }
+        requires vacant { slice_index self.old.table page ≡ no_frame }
         requires room { HasRoom (own_view self.old pool.old) page }
         ensures has { HasPage (own_view self.new pool.new) page result.number }
         ensures scores { pages_scores self.new pool.new ≡ pages_scores self.old pool.old }
         ensures places { pages_places self.new pool.new ≡ pages_places self.old pool.old }
         ensures frames { length (own_view self.new pool.new).frames ≤ length (own_view self.old pool.old).frames + 1 }
-        ensures fields { FieldsStand self.new (own_view self.new pool.new) }
+        ensures fields { TellsChain self.new (own_view self.new pool.new) }
         ensures entries { (other : ℕ) → other ≢ page
-            → slice_index self.new.table.items other ≡ slice_index self.old.table.items other }
+            → slice_index self.new.table other ≡ slice_index self.old.table other }
         ensures same { ArePagesOf self.old self.new }
         ensures own { IsInUse pool.new (own_chain self.new) }
         ensures leaves { LeavesPool pool.old pool.new (own_chain self.old) }
@@ -374,7 +392,7 @@ impl Pages {
 
     /// The frame of a document that has a score.
     fn touched_frame(&self, doc: u32) -> FrameId
-        requires { doc / 256 < length self.now.table.items }
+        requires { doc / 256 < length self.now.table }
         ensures { (pool : PoolView) → Stands self.now pool → 0 < slice_index (pages_scores self.now pool) doc
             → HasPage (own_view self.now pool) (doc / 256) result.number }
     {
@@ -386,7 +404,7 @@ impl Pages {
     /// The first slot of a page whose document has no score, where there is one.
     fn untouched_slot(&self, pool: &FramePool, page: u32) -> Option<u32>
         requires stands { Stands self.now pool.now }
-        requires inside { page < length self.now.table.items }
+        requires inside { page < length self.now.table }
         ensures found { IfSome result (λ slot. slot < 256) }
         ensures untouched { IfSome result (λ slot. 256 * page + slot < docs_of self.now
             → slice_index (pages_scores self.now pool.now) (256 * page + slot) ≡ 0) }
@@ -404,8 +422,8 @@ impl Pages {
 
     /// The frame of a page, where it has one.
     fn known_frame(&self, page: u32) -> Option<FrameId>
-        requires { page < length self.now.table.items }
-        ensures { option_map (λ frame. frame.number) result ≡ frame_of_entry (slice_index self.now.table.items page) }
+        requires { page < length self.now.table }
+        ensures { option_map (λ frame. frame.number) result ≡ frame_of_entry (slice_index self.now.table page) }
     {
         let number = self.table[page as usize];
         if number == NO_FRAME {

@@ -1,5 +1,5 @@
 -- A bitmap in rows of sixteen bytes: the bits of a row are those of 128 documents.
-use Rattle.shared_lemmas.proofs.Common.{◌≡◌, ℕ, ◌+◌, ◌-◌, ◌*◌, ◌<◌, ◌≤◌, min, List, [], ◌++◌, length, take, drop, refl, sym, ap, ◌∙◌, inl, inr, arith, slice_range, cases_lt, length-drop, length-take-le, drop-drop, drop_all, take-append-drop}
+use Rattle.shared_lemmas.proofs.Common.{◌≡◌, ℕ, ◌+◌, ◌-◌, ◌*◌, ◌<◌, ◌≤◌, min, List, [], ◌++◌, length, take, drop, sym, ap, ◌∙◌, inl, inr, arith, slice_range, cases_lt, length-drop, length-take-le, drop-drop, drop_all, take-append-drop}
 use Rattle.session_engine.proofs.Below.{set_bits, set_bits-append, none_set}
 
 -- the documents from a row on; the bits begin with those of the row `first`

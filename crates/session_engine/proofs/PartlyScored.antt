@@ -23,7 +23,7 @@ none_scored weight docs rest first old all stand leaves = record {
   stand = stand;
   sums = refl;
   frames = omega arith;
-  same = record { chain = refl; docs = refl; k = refl };
+  same = record { chain = refl; docs = refl; k = refl; room = refl };
   leaves = leaves;
 }
 
@@ -45,7 +45,7 @@ module _ {weight : ℕ} {docs rest : List ℕ} {first : Scores} {old : PoolView}
     stand = stand;
     sums = sums ∙ ap (added weight block) part.sums ∙ sym (parts weight part.done block (scores_of first old));
     frames = let low = part.frames in let length_of = length-append part.done block in omega arith;
-    same = record { chain = same.chain ∙ part.same.chain; docs = same.docs ∙ part.same.docs; k = same.k ∙ part.same.k };
+    same = record { chain = same.chain ∙ part.same.chain; docs = same.docs ∙ part.same.docs; k = same.k ∙ part.same.k; room = same.room ∙ part.same.room };
     leaves = both old new pool (own_chain first) part.leaves (subst (LeavesPool new pool) part.same.chain leaves);
   }
 

@@ -14,7 +14,7 @@ pub record Progress (from i need : ℕ) (plan : QueryPlan) (first : Scores) (old
 pub started : (from need : ℕ) (plan : QueryPlan) (first : Scores) (old : PoolView) (steps : ℕ) → ScoredTo from plan need first old → LeavesPool old old (own_chain first) → Progress from from need plan first old first old steps steps 0
 started from need plan first old steps scored leaves = record {
   scored = scored;
-  same = record { chain = refl; docs = refl; k = refl };
+  same = record { chain = refl; docs = refl; k = refl; room = refl };
   leaves = leaves;
   counted = omega arith;
   paid = omega arith;
@@ -52,7 +52,7 @@ module _ {from i need : ℕ} {plan : QueryPlan} {first : Scores} {old : PoolView
           frames = let low = was.frames in omega arith;
           promise = ap (λ n. (chain_view pool n).promise) same.chain ∙ leaves.promise ∙ was.promise;
         };
-        same = record { chain = same.chain ∙ progress.same.chain; docs = same.docs ∙ progress.same.docs; k = same.k ∙ progress.same.k };
+        same = record { chain = same.chain ∙ progress.same.chain; docs = same.docs ∙ progress.same.docs; k = same.k ∙ progress.same.k; room = same.room ∙ progress.same.room };
         leaves = both old new pool (own_chain first) progress.leaves (subst (LeavesPool new pool) progress.same.chain leaves);
         counted = let before = progress.counted in omega arith;
         paid = let before = progress.paid in omega arith;

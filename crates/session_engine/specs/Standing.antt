@@ -41,6 +41,14 @@ chain_of s = scores.own_chain s.scores
 abbrev pub prefix_of : Session → ℕ
 prefix_of s = s.scored
 
+-- its scores with their first documents
+abbrev pub scores_in : Session → Scores
+scores_in s = s.scores
+
+-- its plan, as it is arranged
+abbrev pub plan_in : Session → PlanView
+plan_in s = s.plan
+
 -- its last report
 abbrev pub report_of : Session → Report
 report_of s = s.report
@@ -58,6 +66,11 @@ pub record IsSessionOf (old new : Session) : Type 0 where
   pub query : query_of new ≡ query_of old
   pub k : k_of new ≡ k_of old
   pub chain : chain_of new ≡ chain_of old
+
+-- the same plan, and as much room as before for the page table, the notes and the first documents
+pub record KeepsRoom (old new : Session) : Type 0 where
+  pub plan : plan_in new ≡ plan_in old
+  pub scores : scores.room_of (scores_in new) ≡ scores.room_of (scores_in old)
 
 -- ---- standing
 

@@ -4,7 +4,7 @@ ghost use Rattle.index_model.specs.Index.{IndexData};
 ghost use Rattle.frame_pool.specs.Pool.{PoolView, IsInUse, Promises, spare_of};
 ghost use Rattle.frame_pool.specs.ChainView.{LeavesOthers, LeavesPool, chain_view};
 ghost use Rattle.session_engine.specs.Plans.{AreKnown, HasFreeNumber, need_of};
-ghost use Rattle.session_engine.specs.Standing.{IsPlanned, IsSessionOf, SessionStands, answer_over};
+ghost use Rattle.session_engine.specs.Standing.{IsPlanned, IsSessionOf, KeepsRoom, SessionStands, answer_over};
 ghost use Rattle.session_engine.specs.Standing.{chain_of, granted_of, k_of, query_of, report_of};
 ghost use Rattle.jass_base.specs.declared.limits.TheConstants.{MOST_HITS};
 
@@ -25,6 +25,7 @@ use segment_plan::Plan;
 use segment_plan::laws::prefixes_are_those_of_the_plan;
 use session_scores::Scores;
 use std::alloc::Global;
+use std::marker::Model;
 use std::sync::ledger::Ledger;
 
 /// A query that is answered in parts, over one source of segments and one pool. It ends only by `close`.
@@ -39,6 +40,22 @@ pub struct Session {
     granted: u64,
     scored: u32,
     report: Report,
+}
+
+impl Model for Session {
+    ghost use Rattle.session_engine.specs.View.{SessionView};
+
+    ghost Value = { SessionView };
+
+    ghost view = { λ s. record {
+      scores = s.scores;
+      plan = s.plan;
+      query = s.query;
+      k = s.k;
+      granted = s.granted;
+      scored = s.scored;
+      report = s.report;
+    } };
 }
 
 impl Session {
@@ -106,7 +123,7 @@ impl Session {
     }
 
     /// Adds the budget to what was granted, scores the segments that it pays for now, and counts their postings as
-    /// steps. The report is of all grants so far.
+    /// steps. The report is of all grants so far. Where no further segment is paid for, it is the last one again.
     pub fn grant<S: Source, L: Ledger>(
         &mut self,
         source: &S,
@@ -118,6 +135,7 @@ impl Session {
         ensures stands { SessionStands self.new (S.index source.now) pool.new }
         ensures granted { granted_of self.new ≡ granted_with (granted_of self.old) budget }
         ensures same { IsSessionOf self.old self.new }
+        ensures room { KeepsRoom self.old self.new }
         ensures report { result ≡ report_of self.new }
         ensures more { (report_of self.old).postings ≤ result.postings }
         ensures steps { steps.new + (report_of self.old).postings ≡ steps.old + result.postings }
@@ -131,7 +149,12 @@ impl Session {
         source.is_searchable();
         self.granted = granted_with(self.granted, budget);
         let before = self.report.postings;
-        let to = self.scored + self.plan.within(self.scored, self.granted - before);
+        let further = self.plan.within(self.scored, self.granted - before);
+        // The scores are settled and have their report, so that nothing is left to do.
+        if further == 0 {
+            return self.report;
+        }
+        let to = self.scored + further;
         let query = &self.query;
         let terms = query.terms.as_slice();
         let more = score_entries(

@@ -1,12 +1,12 @@
 -- The scores of a session and its first k + 1 documents, in a pool.
-use Rattle.std.specs.Prelude.{◌≡◌, ℕ, ◌+◌, ◌≤◌, List, true}
+use Rattle.std.specs.Prelude.{◌≡◌, ℕ, List, true}
 use Rattle.frame_pool.specs.Pool.{PoolView}
 use Rattle.frame_pool.specs.ChainView.{ChainView}
 use Rattle.accumulator_pages.specs.Pages as accumulator
 use Rattle.topk_heap.specs.Noting.{AreNoted}
 use Rattle.topk_heap.specs.Standing.{HoldsFirst, without_heap}
+use Rattle.session_scores.specs.View.{ScoresRoom}
 use Rattle.session_scores.specs.declared.scores.Scores.{Scores}
-use Rattle.jass_base.specs.declared.limits.TheConstants.{MOST_HITS}
 
 -- ---- what is seen of the scores
 
@@ -30,11 +30,16 @@ own_view s pool = accumulator.own_view s.pages pool
 abbrev pub scores_of : Scores → PoolView → List ℕ
 scores_of s pool = accumulator.pages_scores s.pages pool
 
--- the scores of one chain, of as many documents, with as many asked for
+-- what there is room for
+abbrev pub room_of : Scores → ScoresRoom
+room_of s = record { table = accumulator.table_room s.pages; notes = s.reached.room; raised = s.top.room }
+
+-- the scores of one chain, of as many documents, with as many asked for, in the same room
 pub record AreScoresOf (old new : Scores) : Type 0 where
   pub chain : own_chain new ≡ own_chain old
   pub docs : docs_of new ≡ docs_of old
   pub k : k_of new ≡ k_of old
+  pub room : room_of new ≡ room_of old
 
 -- ---- standing
 
@@ -42,17 +47,9 @@ pub record AreScoresOf (old new : Scores) : Type 0 where
 abbrev pub IsSettled : Scores → PoolView → Type 0
 IsSettled s pool = HoldsFirst s.top (scores_of s pool)
 
--- whoever passes the hit `last` is noted, whatever the heap has, and k + 1 documents do; no document has a heap place;
--- notes are cut at a limit, and there is room for the k + 1 that a cut keeps and as many more with a block, and for all
--- notes in the heap
+-- whoever passes the hit `last` is noted, whatever the heap has, and k + 1 documents do; no document has a heap place
 pub record ScoresStand (s : Scores) (pool : PoolView) : Type 0 where
   pub pages : accumulator.Stands s.pages pool
   pub noted : AreNoted (without_heap s.top) s.last (scores_of s pool) (accumulator.pages_places s.pages pool)
       s.reached.docs
   pub settled : s.settled ≡ true → IsSettled s pool
-  pub docs : s.docs ≡ docs_of s
-  pub step : s.step ≡ s.top.k + 1 + 128
-  pub few : s.top.k ≤ MOST_HITS
-  pub limit : s.limit ≤ s.reached.room
-  pub block : s.top.k + 1 + s.step ≤ s.reached.room
-  pub room : s.reached.room ≤ s.top.room

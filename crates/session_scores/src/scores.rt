@@ -6,7 +6,7 @@ ghost use Rattle.accumulator_pages.specs.Pages.{HasRoomFor};
 ghost use Rattle.lane_kernels.specs.Bitmap.{set_bits};
 ghost use Rattle.ranking_model.specs.Scores.{added, first_ranked, least_untouched, runner_up};
 ghost use Rattle.topk_heap.specs.Standing.{TopStands};
-ghost use Rattle.session_scores.specs.Scores.{AreScoresOf, IsSettled, ScoresStand, docs_of, k_of, own_chain, own_view, scores_of};
+ghost use Rattle.session_scores.specs.Scores.{AreScoresOf, IsSettled, ScoresStand, docs_of, k_of, own_chain, own_view, room_of, scores_of};
 ghost use Rattle.jass_base.specs.declared.limits.TheConstants.{MOST_HITS};
 
 use accumulator_pages::laws::room_for_more_is_room_for_one;
@@ -15,6 +15,7 @@ use frame_pool::laws::calls_on_one_chain;
 use frame_pool::{Chain, FramePool};
 use jass_base::{Hit, NoMemory};
 use std::alloc::Global;
+use std::marker::Model;
 use topk_heap::laws::{the_runner_up_is_a_document, those_raised_are_noted};
 use topk_heap::{Top, just_behind};
 
@@ -34,6 +35,23 @@ pub struct Scores {
     step: usize,
     limit: usize,
     settled: bool,
+}
+
+impl Model for Scores {
+    ghost use Rattle.session_scores.specs.View.{ScoresView};
+    ghost use Rattle.session_scores.specs.Private.Kept.{HasRooms};
+
+    ghost Value = { ScoresView };
+
+    ghost view = { λ s. record {
+      pages = s.pages;
+      top = s.top;
+      reached = s.reached;
+      last = s.last;
+      settled = s.settled;
+    } };
+
+    ghost invariant = { λ s. HasRooms s.docs s.step s.limit s.pages s.top s.reached };
 }
 
 /// The most documents of a block.
@@ -178,6 +196,7 @@ impl Scores {
         ensures stand { ScoresStand self.new pool.now }
         ensures pages { self.new.pages ≡ self.old.pages }
         ensures k { k_of self.new ≡ k_of self.old }
+        ensures same { room_of self.new ≡ room_of self.old }
     {
         if self.reached.as_slice().len() + docs > self.limit {
             self.cut(pool);
@@ -189,10 +208,11 @@ impl Scores {
     #[inline(never)]
     fn cut(&mut self, pool: &FramePool)
         requires stand { ScoresStand self.old pool.now }
-        ensures limit { length self.new.reached.docs + 128 ≤ self.new.limit }
+        ensures room { length self.new.reached.docs + 128 ≤ self.new.reached.room }
         ensures stand { ScoresStand self.new pool.now }
         ensures pages { self.new.pages ≡ self.old.pages }
         ensures k { k_of self.new ≡ k_of self.old }
+        ensures same { room_of self.new ≡ room_of self.old }
     {
         those_raised_are_noted();
         the_runner_up_is_a_document();
@@ -208,6 +228,7 @@ impl Scores {
         ensures stand { ScoresStand self.new pool.now }
         ensures pages { self.new.pages ≡ self.old.pages }
         ensures k { k_of self.new ≡ k_of self.old }
+        ensures same { room_of self.new ≡ room_of self.old }
     {
         those_raised_are_noted();
         self.top.rank(&self.pages, pool, self.reached.as_slice());

@@ -38,7 +38,7 @@ keeps_again first second third one two three both f g = record {
   scores = g.scores ∙ f.scores;
   frames = g.frames ∙ f.frames;
   stands = g.stands;
-  same = record { chain = g.same.chain ∙ f.same.chain; docs = g.same.docs ∙ f.same.docs };
+  same = record { chain = g.same.chain ∙ f.same.chain; docs = g.same.docs ∙ f.same.docs; room = g.same.room ∙ f.same.room };
   leaves = both one two three (own_chain first) f.leaves (subst (λ (x : ℕ). LeavesPool two three x) f.same.chain g.leaves);
 }
 

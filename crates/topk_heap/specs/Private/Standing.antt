@@ -12,11 +12,11 @@ abbrev pub AreInOrder : List Hit → Type 0
 AreInOrder [] = ⊤
 AreInOrder (hit ∷ hits) = AllByRecursion (λ other. (is_gt (rank_cmp other hit) ≡ true) × (other.doc ≢ hit.doc)) hits × AreInOrder hits
 
--- hits in order, at most k + 1 of them, with room for at least one document more, and as much room aside; k is at most
--- 100,000
+-- hits in order, at most k + 1 of them, with room for at least one document more, and just as much room aside; k is at
+-- most 100,000
 pub record IsTop (k : ℕ) (row aside : HitsView) : Type 0 where
   pub order : AreInOrder row.hits
   pub few : length row.hits ≤ k + 1
   pub small : k ≤ MOST_HITS
   pub room : k + 1 < row.room
-  pub beside : row.room ≤ aside.room
+  pub beside : aside.room ≡ row.room

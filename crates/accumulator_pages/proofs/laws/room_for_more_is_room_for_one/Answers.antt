@@ -5,4 +5,4 @@ use Rattle.accumulator_pages.proofs.laws.room_for_more_is_room_for_one.Goals as 
 
 pub returns : goal.returns
 returns c pages pool doc more stands inside some room =
-    has_room pages.table.items pages.docs (own_view pages pool) (doc / 256) more stands.here.fields.table (let t = stands.here.fields.table.covers in omega (arith, t, inside)) some room
+    has_room pages.table pages.docs (own_view pages pool) (doc / 256) more stands.here.fields.table (let t = stands.here.fields.table.covers in omega (arith, t, inside)) some room

@@ -2,7 +2,7 @@ use Rattle.shared_lemmas.proofs.Common.{◌≡◌, ◌<◌, ◌≤◌, ◌∙◌
 use Rattle.frame_pool.specs.ChainView.{chain_view, view_scores}
 use Rattle.accumulator_pages.specs.Adding.{page_count, page_is_touched, touched_pages}
 use Rattle.session_scores.specs.Scores.{docs_of, own_view}
-use Rattle.session_engine.specs.Standing.{chain_of, plan_over, prefix_of, terms_of}
+use Rattle.session_engine.specs.Standing.{chain_of, prefix_of, terms_of}
 use Rattle.session_engine.proofs.laws.a_session_has_the_scores_of_its_prefix.Goals as goal
 
 pub returns-clause-scores : goal.returns-clause-scores

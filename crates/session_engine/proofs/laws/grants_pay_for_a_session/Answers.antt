@@ -1,6 +1,6 @@
-use Rattle.shared_lemmas.proofs.Common.{◌≡◌, ◌≤◌, ◌∙◌, ap, subst, sym, ℕ}
+use Rattle.shared_lemmas.proofs.Common.{◌≤◌, ◌∙◌, ap, subst, sym}
 use Rattle.session_engine.proofs.Below.{Report, size_of_first}
-use Rattle.session_engine.specs.Standing.{granted_of, plan_over, prefix_of, report_of}
+use Rattle.session_engine.specs.Standing.{granted_of, plan_over}
 use Rattle.session_engine.proofs.laws.grants_pay_for_a_session.Goals as goal
 
 pub returns-clause-steps : goal.returns-clause-steps

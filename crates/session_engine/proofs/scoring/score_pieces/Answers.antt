@@ -1,6 +1,6 @@
 use Rattle.std.proofs.Common.{◌∙◌, ℕ, List, ap, arith, length, refl, sym}
 use Rattle.session_engine.proofs.Below.{added, piece_docs, scores_of}
-use Rattle.session_engine.proofs.Pieces.{as_many, at_least, at_most, begun, finished, more}
+use Rattle.session_engine.proofs.Pieces.{as_many, at_most, begun, finished, more}
 use Rattle.session_engine.proofs.PartlyScored.{block_fits, block_inside, block_room}
 use Rattle.session_engine.proofs.scoring.score_pieces.Goals as goal
 

@@ -19,11 +19,11 @@ returns-clause-stands c =
       in_use = subst (λ (es : List (Option ChainEntry)). IsSome (get_or es chain None)) (sym c.set_score.ensures.chains) c.frame_of-frame.ensures.own;
       here = record {
         fields = record {
-          table = table_kept c.frame_of-frame.new.self.table.items c.frame_of-frame.new.self.docs _ _ keeps fields.table;
+          table = table_kept c.frame_of-frame.new.self.table c.frame_of-frame.new.self.docs _ _ keeps fields.table;
           frames = fields.frames ∙ sym keeps.count;
         };
         used = λ page inside entry. subst (λ (s : List ℕ). HasTouched s page) (sym raised)
-            (used_now c.args.self.now.table.items c.frame_of-frame.new.self.table.items scores c.args.doc c.args.w
+            (used_now c.args.self.now.table c.frame_of-frame.new.self.table scores c.args.doc c.args.w
             (omega (arith, fields.table.covers, c.requires.stands.here.fields.table.covers, c.frame_of-frame.ensures.same.docs)) c.frame_of-frame.ensures.entries
             (omega (arith, c.requires.inside, size)) c.requires.weight c.requires.stands.here.used page inside entry);
       };

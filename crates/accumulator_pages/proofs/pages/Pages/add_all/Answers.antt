@@ -18,7 +18,7 @@ pub add-score-requires-clause-frame : goal.add-score-requires-clause-frame
 add-score-requires-clause-frame c =
     let d : ℕ = get_or c.args.docs.now c.loop-doc.doc-index 0 in let table = c.loop-doc.invariant.stands.here.fields.table in
     let inside : d < c.args.self.now.docs = All-get_or (λ d. d < c.args.self.now.docs) c.args.docs.now c.loop-doc.doc-index 0 (omega (arith, c.loop-doc-test.true)) c.requires.inside in
-    has_room c.loop-doc.self.table.items c.loop-doc.self.docs (own_view c.loop-doc.self c.loop-doc.pool) (d / 256) (length c.args.docs.now - c.loop-doc.doc-index) table
+    has_room c.loop-doc.self.table c.loop-doc.self.docs (own_view c.loop-doc.self c.loop-doc.pool) (d / 256) (length c.args.docs.now - c.loop-doc.doc-index) table
     (omega (arith, inside, table.covers, c.loop-doc.invariant.same.docs)) (omega (arith, c.loop-doc-test.true))
     (subst (λ (n : ℕ). HasRoomFor (own_view c.loop-doc.self c.loop-doc.pool) n (length c.args.docs.now - c.loop-doc.doc-index)) (sym c.loop-doc.invariant.same.docs) c.loop-doc.invariant.promise)
 
@@ -29,7 +29,7 @@ loop-doc-preserved c =
     let score : ℕ = c.add-score.result in
     record {
       stands = c.add-score.ensures.stands;
-      same = record { chain = c.add-score.ensures.same.chain ∙ c.loop-doc.invariant.same.chain; docs = c.add-score.ensures.same.docs ∙ c.loop-doc.invariant.same.docs };
+      same = record { chain = c.add-score.ensures.same.chain ∙ c.loop-doc.invariant.same.chain; docs = c.add-score.ensures.same.docs ∙ c.loop-doc.invariant.same.docs; room = c.add-score.ensures.same.room ∙ c.loop-doc.invariant.same.room };
       left = next c.args.w c.args.docs.now (pages_scores c.loop-doc.self c.loop-doc.pool) (pages_scores c.add-score.new.self c.add-score.new.pool) _ c.loop-doc.doc-index d
           inside refl (c.add-score.ensures.scores ∙ ap (λ (v : ℕ). set (pages_scores c.loop-doc.self c.loop-doc.pool) d v) c.add-score.ensures.score) c.loop-doc.invariant.left;
       noted = next_noted c.args.w c.args.last c.args.docs.now (pages_scores c.loop-doc.self c.loop-doc.pool) (pages_scores c.add-score.new.self c.add-score.new.pool)

@@ -10,7 +10,7 @@ pub raise_bits-near-requires-clause-frame : goal.raise_bits-near-requires-clause
 raise_bits-near-requires-clause-frame c =
     let table = c.requires.stands.here.fields.table in
     let some = c.any_set.ensures.some c.if-not-any_set.false (128 * c.args.row) in
-    has_room c.args.self.now.table.items c.args.self.now.docs (own_view c.args.self.now c.args.pool.now) (c.args.row / 2) (length (set_bits (128 * c.args.row) c.args.bits.now)) table
+    has_room c.args.self.now.table c.args.self.now.docs (own_view c.args.self.now c.args.pool.now) (c.args.row / 2) (length (set_bits (128 * c.args.row) c.args.bits.now)) table
     (omega (arith, row_inside c.args.row c.args.self.now.docs c.args.bits.now c.requires.bits some c.requires.inside, table.covers)) some c.requires.frames
 
 pub note_bits-requires-clause-rose : goal.note_bits-requires-clause-rose

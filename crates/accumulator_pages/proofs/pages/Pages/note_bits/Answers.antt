@@ -25,7 +25,7 @@ returns-in_default-clause-docs c =
     value-none (λ x. x.scores) c.args.self.now.docs (own_view c.args.self.now c.args.pool.now) d (c.requires.inside 0 0 c.requires.some)
     (c.requires.stands.here.fields.table.entries (d / 256)
     (omega (arith, page, row_inside c.args.row c.args.self.now.docs c.args.bits.now c.requires.bits c.requires.some c.requires.inside, c.requires.stands.here.fields.table.covers))
-    ∙ ap (λ (p : ℕ). frame_of_entry (get_or c.args.self.now.table.items p 0)) page
+    ∙ ap (λ (p : ℕ). frame_of_entry (get_or c.args.self.now.table p 0)) page
     ∙ sym c.known_frame.ensures ∙ ap (λ (o : Option FrameId). option_map (λ (f : FrameId). f.number) o) c.in_default.is) in
     absurd (omega (arith, c.requires.rose 0 0 c.requires.some, none, c.requires.weight))
 

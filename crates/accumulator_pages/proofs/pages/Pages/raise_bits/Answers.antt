@@ -50,9 +50,9 @@ returns c =
       stands = record {
         in_use = search rules;
         here = record {
-          fields = record { table = table_kept c.frame_of-frame.new.self.table.items docs _ _ keeps fields.table; frames = fields.frames ∙ sym keeps.count };
+          fields = record { table = table_kept c.frame_of-frame.new.self.table docs _ _ keeps fields.table; frames = fields.frames ∙ sym keeps.count };
           used = λ page inside entry. subst (λ (s : List ℕ). HasTouched s page) (sym after)
-              (used_by_bits c.args.self.now.table.items c.frame_of-frame.new.self.table.items scores c.args.row c.args.w c.args.bits.now
+              (used_by_bits c.args.self.now.table c.frame_of-frame.new.self.table scores c.args.row c.args.w c.args.bits.now
               (omega (arith, fields.table.covers, c.requires.stands.here.fields.table.covers, c.frame_of-frame.ensures.same.docs)) c.frame_of-frame.ensures.entries
               c.requires.bits c.requires.some (λ k d inside. omega (arith, size, c.requires.inside k d inside)) c.requires.weight c.requires.stands.here.used page inside entry);
         };

@@ -1,17 +1,21 @@
-use Rattle.std.proofs.Common.{◌∙◌, ◌*◌, ℕ, List, ap, true≢false, sym, arith}
+use Rattle.std.proofs.Common.{◌∙◌, ◌*◌, ◌<◌, ◌^◌, All, ℕ, List, length, ap, true≢false, sym, arith, subst}
 use Rattle.accumulator_pages.specs.declared.pages.Pages.{Pages}
+use Rattle.accumulator_pages.specs.Adding.{added}
 use Rattle.accumulator_pages.specs.Pages.{own_view, pages_places, pages_scores}
 use Rattle.accumulator_pages.proofs.Bits.{length-set_bits}
 use Rattle.accumulator_pages.proofs.Standing.{length-values}
 use Rattle.lane_kernels.specs.Bitmap.{set_bits}
 use Rattle.topk_heap.specs.Standing.{without_heap}
+use Rattle.session_scores.specs.Scores.{ScoresStand}
+use Rattle.session_scores.specs.View.{ScoresView}
 use Rattle.session_scores.proofs.Same.{inside_now, noted_after}
 use Rattle.session_scores.proofs.scores.Scores.add_bits.Goals as goal
 
 pub returns-clause-stand : goal.returns-clause-stand
 returns-clause-stand c =
-    let stand = c.make_room.ensures.stand in let s = c.make_room.new.self in let scores : List ℕ = pages_scores s.pages c.args.pool.now in
-    let size = length-values (λ x. x.scores) s.pages.docs (own_view s.pages c.args.pool.now) ∙ ap (λ (p : Pages). p.docs) c.make_room.ensures.pages in
+    let stand = subst (λ (s : ScoresView). ScoresStand s c.args.pool.now) (sym c.self.view_is) c.make_room.ensures.stand in
+    let s = c.self.inside in let before = ap (λ (s : ScoresView). s.pages) c.self.view_is ∙ c.make_room.ensures.pages in let scores : List ℕ = pages_scores s.pages c.args.pool.now in
+    let size = length-values (λ x. x.scores) s.pages.docs (own_view s.pages c.args.pool.now) ∙ ap (λ (p : Pages). p.docs) before in
     record {
       pages = c.add_bits.ensures.stands;
       noted = noted_after (without_heap s.top) s.last c.args.w (set_bits (128 * c.args.row) c.args.bits.now) scores _ (pages_places s.pages c.args.pool.now) _ s.reached.docs _
@@ -19,13 +23,12 @@ returns-clause-stand c =
           (inside_now (set_bits (128 * c.args.row) c.args.bits.now) scores _ size c.requires.inside))
           c.add_bits.ensures.scores c.add_bits.ensures.places c.add_bits.ensures.reached;
       settled = λ e. absurd (true≢false (sym e));
-      docs = stand.docs ∙ sym c.add_bits.ensures.same.docs;
-      step = stand.step;
-      few = stand.few;
-      limit = omega (arith, stand.limit, c.add_bits.ensures.room);
-      block = omega (arith, stand.block, c.add_bits.ensures.room);
-      room = omega (arith, stand.room, c.add_bits.ensures.room);
     }
 
+pub add_bits-requires-clause-fits : goal.add_bits-requires-clause-fits
+add_bits-requires-clause-fits c =
+    let before = ap (λ (s : ScoresView). s.pages) c.self.view_is ∙ c.make_room.ensures.pages in
+    subst (λ (p : Pages). All (λ (score : ℕ). score < 2 ^ 32) (added c.args.w (set_bits (128 * c.args.row) c.args.bits.now) (pages_scores p c.args.pool.now))) (sym before) c.requires.fits
+
 pub add_bits-requires-clause-room : goal.add_bits-requires-clause-room
-add_bits-requires-clause-room c = omega (arith, c.make_room.ensures.room, length-set_bits (128 * c.args.row) c.args.bits.now, c.requires.bits)
+add_bits-requires-clause-room c = omega (arith, ap (λ (s : ScoresView). s.reached.room) c.self.view_is, ap (λ (s : ScoresView). length s.reached.docs) c.self.view_is, c.make_room.ensures.room, length-set_bits (128 * c.args.row) c.args.bits.now, c.requires.bits)

@@ -1,0 +1,2 @@
+-- Words that no clause of a public call cites: those of this crate's own functions.
+pub mod Kept
