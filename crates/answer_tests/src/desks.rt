@@ -158,7 +158,7 @@ fn file_of(rt: &impl Abort, alloc: Global, terms: Terms<'_>) -> IndexFile {
 }
 
 /// A desk of so many frames over the file of these terms.
-fn desk_over(rt: &impl Abort, alloc: Global, terms: Terms<'_>, frames: u32) -> Desk {
+fn desk_over(rt: &impl Abort, alloc: Global, terms: Terms<'_>, frames: u32) -> Desk<IndexFile> {
     assert!(rt; frames == 1 || frames == 2);
     match Desk::new(alloc, file_of(rt, alloc, terms), frames) {
         Ok(desk) => desk,
@@ -168,7 +168,7 @@ fn desk_over(rt: &impl Abort, alloc: Global, terms: Terms<'_>, frames: u32) -> D
 
 /// Answers a line, and puts the reply.
 fn answer_one<L: Ledger>(
-    desk: &mut Desk,
+    desk: &mut Desk<IndexFile>,
     line: &[u8],
     out: &mut MemSink,
     buffer: &mut Buffer,
@@ -182,7 +182,7 @@ fn answer_one<L: Ledger>(
 /// Answers the lines of a script, each of which ends with a line feed, and puts each reply by itself, as far as nothing
 /// fails.
 fn answer_all<L: Ledger>(
-    desk: &mut Desk,
+    desk: &mut Desk<IndexFile>,
     script: &[u8],
     out: &mut MemSink,
     steps: &mut Steps<L>,
@@ -193,7 +193,7 @@ fn answer_all<L: Ledger>(
 
 /// Answers the lines of a script as `answer_all` does, with a buffer for the replies that the caller owns.
 fn answer_lines<L: Ledger>(
-    desk: &mut Desk,
+    desk: &mut Desk<IndexFile>,
     script: &[u8],
     out: &mut MemSink,
     buffer: &mut Buffer,
@@ -214,7 +214,7 @@ fn answer_lines<L: Ledger>(
 fn both_answered<L: Ledger>(
     rt: &impl Abort,
     blank: Blank,
-    mut desk: Desk,
+    mut desk: Desk<IndexFile>,
     docs: u32,
     script: &[u8],
     behind: &[u8],

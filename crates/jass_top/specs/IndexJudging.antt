@@ -10,7 +10,7 @@ use Rattle.index_layout.specs.View.{FileView, index_text}
 use Rattle.index_version1.specs.Reading.{read_index1}
 use Rattle.jass_top.specs.declared.stop.Place.{Place}
 use Rattle.jass_top.specs.declared.stop.Place.TheVariants.{Byte}
-use Rattle.jass_top.specs.Judging.{Judged, Accepted, Missing, Refuses, Untold}
+use Rattle.jass_top.specs.Judging.{Judged, Accepted, Missing, Refuses, Untold, behind}
 use Rattle.jass_base.specs.declared.limits.TheConstants.{LONGEST_FILE}
 
 abbrev pub judged_file : {A : Type 0} → List ℕ → Result A OpenRefusal → Judged A
@@ -25,6 +25,10 @@ judged_index name (Some content) = judged_file name (read_index content)
 unfoldable pub judge_index : List ℕ → Option Files → Judged FileView
 judge_index name None = Untold
 judge_index name (Some files) = judged_index name (get files name)
+
+-- the index that an index file holds
+abbrev pub judge_held : List ℕ → Option Files → Judged IndexData
+judge_held name told = behind (judge_index name told) (λ file. Accepted file.index)
 
 abbrev pub judged_old : List ℕ → Option (List ℕ) → Judged IndexData
 judged_old name None = Missing name

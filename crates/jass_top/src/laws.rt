@@ -4,8 +4,10 @@ ghost use Rattle.std.specs.Prelude.{ℕ, ◌≡◌, ◌≢◌, ◌<◌, ◌⊎�
 ghost use Rattle.std.specs.FinMap.{get};
 ghost use Rattle.jass_base.specs.Ciff.{CollectionData, IsCiff};
 ghost use Rattle.jass_base.specs.Outside.{Files, Rose};
-ghost use Rattle.index_layout.specs.View.{FileView, IsFileView, chosen_view, file_bytes, index_text};
+ghost use Rattle.index_layout.specs.View.{FileView, IsFileView, chosen_codecs, file_bytes, index_text};
 ghost use Rattle.index_model.specs.Index.{IndexData, IsIndex};
+ghost use Rattle.index_file.specs.Places.{codec_use};
+ghost use Rattle.index_file.specs.Sources.{IsSearchable};
 ghost use Rattle.jass_base.specs.CiffText.{canonical_ciff};
 ghost use Rattle.jass_base.specs.declared.answer.Budget.{Budget};
 ghost use Rattle.index_layout.specs.Reading.{read_index};
@@ -154,13 +156,13 @@ pub fn query_files_are_judged()
 /// of the index, and a report for each query and stop, which keeps what it promises; so is what
 /// it leaves within budgets, whose stops are the prefixes that they pay for.
 pub fn a_search_leaves_its_output()
-    ensures at_stops { (file : FileView) (search : Search) (queries : List LineQuery) → IsFileView file
-        → IsSearchOutput search (record { index = file.index; queries = queries })
-        (search_output file search (without_lines queries)) }
-    ensures within_budgets { (file : FileView) (k : ℕ) (budgets : List Budget) (tag : List ℕ)
-        (queries : List LineQuery) → IsFileView file
-        → IsSearchOutput (search_within k budgets tag) (record { index = file.index; queries = queries })
-        (budgets_output file k budgets tag (without_lines queries)) }
+    ensures at_stops { (index : IndexData) (search : Search) (queries : List LineQuery) → IsSearchable index
+        → IsSearchOutput search (record { index = index; queries = queries })
+        (search_output index search (without_lines queries)) }
+    ensures within_budgets { (index : IndexData) (k : ℕ) (budgets : List Budget) (tag : List ℕ)
+        (queries : List LineQuery) → IsSearchable index
+        → IsSearchOutput (search_within k budgets tag) (record { index = index; queries = queries })
+        (budgets_output index k budgets tag (without_lines queries)) }
 {
     the_flat_list_is_flat();
     the_prefix_is_the_longest();
@@ -264,8 +266,8 @@ pub fn audited_files_are_judged()
 /// What a trial leaves query by query is its summary, with a report for each query and grant, which
 /// keeps what it promises.
 pub fn a_trial_leaves_its_summary()
-    ensures { (file : FileView) (queries : List QueryData) → IsFileView file → file ≡ chosen_view file.index
-        → IsTrialOutput queries file.index (trial_output file queries) }
+    ensures { (index : IndexData) (queries : List QueryData) → IsSearchable index → IsTrialOutput queries index
+        (trial_output index (codec_use (chosen_codecs (length index.names) index.terms)) queries) }
 {
     the_flat_list_is_flat();
     the_prefix_is_the_longest();

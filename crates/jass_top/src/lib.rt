@@ -18,6 +18,7 @@ mod input;
 pub mod laws;
 mod memory_file;
 mod migrate;
+mod named_words;
 mod note;
 mod once;
 mod program;

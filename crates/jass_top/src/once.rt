@@ -1,7 +1,7 @@
 ghost use Rattle.std.specs.Prelude.{◌≡◌, ◌+◌, ◌<◌, ◌≤◌, ◌++◌, length, All, codes};
 ghost use Rattle.asked_lists.specs.Asked.{asked_of};
 ghost use Rattle.ciff_read.specs.Counts.{posting_count};
-ghost use Rattle.index_layout.specs.View.{IsFileView, index_postings, index_text};
+ghost use Rattle.index_layout.specs.View.{index_postings, index_text};
 ghost use Rattle.index_model.specs.Views.{index_data};
 ghost use Rattle.jass_base.specs.CiffViews.{collection_data};
 ghost use Rattle.jass_base.specs.declared.answer.Hit.{Hit};
@@ -22,14 +22,14 @@ ghost use Rattle.jass_top.specs.Private.Worlds.{with_files, with_output, with_st
 use crate::import::index_collection;
 use crate::input::read_file;
 use crate::memory_file::file_in_memory;
+use crate::named_words::name_words;
 use crate::stop::{OUTPUT, Stop};
 use asked_lists::laws::asked_lists_answer_alike;
 use asked_lists::{asked_collection, fits_surely};
 use frame_pool::FramePool;
-use index_file::IndexFile;
+use index_file::{NamedSource, Source};
 use jass_base::{Budget, Cabinet, Collection, Hit, ImpactIndex, Report, Sink, Steps, WriteFault};
 use jass_words::Once;
-use query_reader::name_terms;
 use ranking_model::laws::{the_prefix_is_the_longest, the_ranking_has_documents_of_the_scores};
 use session_engine::laws::{
     a_session_plan_names_its_segments, a_standing_session_has_its_chain,
@@ -41,9 +41,7 @@ use std::sync::ledger::Ledger;
 use trec_run::{put_answer, put_report};
 use weights::{Bits, Rule};
 
-/// The query's id, and the tag of its run lines.
-const ID: &str = "q";
-
+/// The tag of the run lines.
 const TAG: &str = "jass";
 
 /// Answers a query of words over a CIFF file on the output.
@@ -145,37 +143,37 @@ fn ask_made<'a, O: Sink, L: Ledger>(
         Ok(file) => file,
         Err(stop) => return Err(stop),
     };
-    let answered = ask_file(alloc, &file, input, question, out, steps);
+    let answered = ask_source(alloc, &file, input, question, out, steps);
     drop(file);
     answered
 }
 
-/// Asks an opened index file, whose text fits a file of that name.
-fn ask_file<'a, O: Sink, L: Ledger>(
+/// Asks an index, whose text fits a file of that name.
+fn ask_source<'a, S: NamedSource, O: Sink, L: Ledger>(
     alloc: Global,
-    index: &IndexFile,
+    source: &S,
     input: &'a str,
     question: Once<'_>,
     out: &mut O,
     steps: &mut Steps<L>,
 ) -> Result<(), Stop<'a>>
-    requires view { IsFileView index.now }
-    requires fits { length (index_text index.now.index) ≤ LONGEST_FILE }
-    ensures { (beside : Outer) → Runs (asking_meaning input.now index.now.index (once_of question.entry))
+    requires { length (index_text (S.index source.now)) ≤ LONGEST_FILE }
+    ensures { (beside : Outer) → Runs (asking_meaning input.now (S.index source.now) (once_of question.entry))
         (with_output O.Sink out.old (with_steps steps.old beside))
         (with_output O.Sink out.new (with_steps steps.new beside)) result }
 {
     a_standing_session_has_its_chain();
     reports_of_sessions_keep_their_promises();
     the_prefix_is_the_longest();
-    let Ok(query) = name_terms(alloc, ID, question.terms, index) else {
+    source.is_searchable();
+    let Ok(query) = name_words(alloc, question.terms, source) else {
         return Err(Stop::NoMemory);
     };
-    let Ok(mut pool) = FramePool::new(alloc, index.docs().div_ceil(256), 1) else {
+    let Ok(mut pool) = FramePool::new(alloc, Source::docs(source).div_ceil(256), 1) else {
         drop(query);
         return Err(Stop::NoMemory);
     };
-    let mut session = match Session::open(alloc, index, &mut pool, query, question.k) {
+    let mut session = match Session::open(alloc, source, &mut pool, query, question.k) {
         Ok(session) => session,
         Err(OpenStop::NoMemory) => {
             drop(pool);
@@ -183,7 +181,7 @@ fn ask_file<'a, O: Sink, L: Ledger>(
         }
         Err(OpenStop::PoolFull { .. }) => unreachable!("the pool has a frame for each page"),
     };
-    let answered = answer_session(&mut session, index, &mut pool, question.budget, out, steps);
+    let answered = answer_session(&mut session, source, &mut pool, question.budget, out, steps);
     session.close(&mut pool);
     drop(pool);
     match answered {
@@ -193,49 +191,51 @@ fn ask_file<'a, O: Sink, L: Ledger>(
 }
 
 /// Grants a budget, and puts the report line and the run lines on the output.
-fn answer_session<O: Sink, L: Ledger>(
+fn answer_session<S: NamedSource, O: Sink, L: Ledger>(
     session: &mut Session,
-    index: &IndexFile,
+    source: &S,
     pool: &mut FramePool,
     budget: Budget,
     out: &mut O,
     steps: &mut Steps<L>,
 ) -> Result<(), WriteFault>
-    requires { SessionStands session.old index.now.index pool.old }
-    ensures stands { SessionStands session.new index.now.index pool.new }
+    requires { SessionStands session.old (S.index source.now) pool.old }
+    ensures stands { SessionStands session.new (S.index source.now) pool.new }
     ensures granted { granted_of session.new ≡ granted_with (granted_of session.old) budget }
     ensures same { IsSessionOf session.old session.new }
     ensures leaves { LeavesPool pool.old pool.new (chain_of session.old) }
     ensures steps { steps.new + (report_of session.old).postings ≡ steps.old + (report_of session.new).postings }
-    ensures text { Wrote O.written O.faults O.rest out.old out.new (session_text index.now session.new) result }
+    ensures text { Wrote O.written O.faults O.rest out.old out.new
+        (session_text (S.index source.now) session.new) result }
 {
     a_session_plan_names_its_segments();
     the_ranking_has_documents_of_the_scores();
-    let report = session.grant(index, pool, budget, steps);
+    let report = session.grant(source, pool, budget, steps);
     let query = session.query();
     put_lines(
         out,
         query.id.as_str(),
         query.unknown,
         report,
-        index,
+        source,
         session.answer(),
     )
 }
 
 /// Puts a report line and the run lines of an answer on the output.
-fn put_lines<O: Sink>(
+fn put_lines<S: NamedSource, O: Sink>(
     out: &mut O,
     id: &str,
     unknown: u32,
     report: Report,
-    index: &IndexFile,
+    source: &S,
     hits: &[Hit],
 ) -> Result<(), WriteFault>
-    requires { All (λ (hit : Hit). hit.doc < length index.now.index.names) hits.now }
+    requires { All (λ (hit : Hit). hit.doc < length (S.index source.now).names) hits.now }
     ensures { Wrote O.written O.faults O.rest out.old out.new (report_line id.now report unknown
-        ++ run_lines index.now.index.names id.now (codes "jass") 1 hits.now) result }
+        ++ run_lines (S.index source.now).names id.now (codes "jass") 1 hits.now) result }
 {
+    source.tells_its_index();
     put_report(out, id, unknown, report)?;
-    put_answer(out, id, index, hits, TAG, 0)
+    put_answer(out, id, source, hits, TAG, 0)
 }

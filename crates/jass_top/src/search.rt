@@ -18,7 +18,7 @@ use crate::queries_input::open_queries;
 use crate::search_file::write_search;
 use crate::search_stop::{SearchOutput, SearchStop};
 use crate::stop::{OUTPUT, Stop};
-use index_file::IndexFile;
+use index_file::{IndexFile, Source};
 use jass_base::{Budget, Cabinet, Query, Row, Sink, Steps};
 use jass_words::Asked;
 use query_reader::Mode;
@@ -46,6 +46,7 @@ pub fn run_search<'a, C: Cabinet, O: Sink, L: Ledger>(
 {
     a_search_leaves_its_output();
     let (file, found) = open_search(alloc, index, queries, asked.mode, files)?;
+    file.is_searchable();
     match write_search(
         alloc, found, asked.k, budgets, asked.tag, &file, steps, files, run, out,
     ) {

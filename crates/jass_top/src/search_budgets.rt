@@ -18,7 +18,7 @@ use crate::search_stop::SearchOutput;
 use frame_pool::FramePool;
 use frame_pool::laws::calls_on_one_chain;
 use gathered_text::{Buffer, flush};
-use index_file::IndexFile;
+use index_file::NamedSource;
 use jass_base::{Budget, Hit, Report, Sink, Steps, WriteFault};
 use ranking_model::laws::{the_prefix_is_the_longest, the_ranking_has_documents_of_the_scores};
 use ranking_model::prefix_laws::{
@@ -33,11 +33,11 @@ use trec_run::{gather_answer, gather_report};
 const REPORT_BYTES: usize = 160;
 
 /// Gathers the run lines and the report lines of one session, budget by budget.
-pub fn gather_budgets<R: Sink, O: Sink, L: Ledger>(
+pub fn gather_budgets<S: NamedSource, R: Sink, O: Sink, L: Ledger>(
     session: &mut Session,
     budgets: &[Budget],
     tag: &str,
-    index: &IndexFile,
+    source: &S,
     pool: &mut FramePool,
     steps: &mut Steps<L>,
     run: &mut R,
@@ -46,17 +46,18 @@ pub fn gather_budgets<R: Sink, O: Sink, L: Ledger>(
     out_buffer: &mut Buffer,
 ) -> Result<(), SearchOutput>
     requires few { length budgets.now ≤ MOST_BUDGETS }
-    requires stands { SessionStands session.old index.now.index pool.old }
+    requires stands { SessionStands session.old (S.index source.now) pool.old }
     requires none { granted_of session.old ≡ 0 }
-    ensures stands { SessionStands session.new index.now.index pool.new }
+    ensures stands { SessionStands session.new (S.index source.now) pool.new }
     ensures same { IsSessionOf session.old session.new }
     ensures leaves { LeavesPool pool.old pool.new (chain_of session.old) }
     ensures steps { Stepped steps.old steps.new
-        (query_steps index.now budgets.now (query_data (query_of session.old))) result }
+        (query_steps (S.index source.now) budgets.now (query_data (query_of session.old))) result }
     ensures run { Side R.written R.faults R.rest SearchOutput.Run run.old run.new run_buffer.old run_buffer.new
-        (query_run index.now (k_of session.old) budgets.now tag.now (query_data (query_of session.old))) result }
+        (query_run (S.index source.now) (k_of session.old) budgets.now tag.now (query_data (query_of session.old)))
+        result }
     ensures out { Side O.written O.faults O.rest SearchOutput.Reports out.old out.new out_buffer.old out_buffer.new
-        (query_reports index.now (k_of session.old) budgets.now (query_data (query_of session.old))) result }
+        (query_reports (S.index source.now) (k_of session.old) budgets.now (query_data (query_of session.old))) result }
 {
     the_prefix_is_the_longest();
     a_prefix_is_resumed();
@@ -66,7 +67,7 @@ pub fn gather_budgets<R: Sink, O: Sink, L: Ledger>(
     let mut part = first_part(budgets);
     for budget in budgets {
         gather_budget(
-            session, *budget, part, tag, index, pool, steps, run, run_buffer, out, out_buffer,
+            session, *budget, part, tag, source, pool, steps, run, run_buffer, out, out_buffer,
         )?;
         part += 1;
     }
@@ -81,12 +82,12 @@ fn first_part(budgets: &[Budget]) -> u32
 }
 
 /// Gathers the run lines and the report line of one grant.
-fn gather_budget<R: Sink, O: Sink, L: Ledger>(
+fn gather_budget<S: NamedSource, R: Sink, O: Sink, L: Ledger>(
     session: &mut Session,
     budget: Budget,
     part: u32,
     tag: &str,
-    index: &IndexFile,
+    source: &S,
     pool: &mut FramePool,
     steps: &mut Steps<L>,
     run: &mut R,
@@ -94,20 +95,20 @@ fn gather_budget<R: Sink, O: Sink, L: Ledger>(
     out: &mut O,
     out_buffer: &mut Buffer,
 ) -> Result<(), SearchOutput>
-    requires stands { SessionStands session.old index.now.index pool.old }
-    ensures stands { SessionStands session.new index.now.index pool.new }
+    requires stands { SessionStands session.old (S.index source.now) pool.old }
+    ensures stands { SessionStands session.new (S.index source.now) pool.new }
     ensures granted { granted_of session.new ≡ granted_with (granted_of session.old) budget }
     ensures same { IsSessionOf session.old session.new }
     ensures leaves { LeavesPool pool.old pool.new (chain_of session.old) }
     ensures steps { steps.new + (report_of session.old).postings ≡ steps.old + (report_of session.new).postings }
     ensures run { Side R.written R.faults R.rest SearchOutput.Run run.old run.new run_buffer.old run_buffer.new
-        (answer_text index.now session.new tag.now part) result }
+        (answer_text (S.index source.now) session.new tag.now part) result }
     ensures out { Side O.written O.faults O.rest SearchOutput.Reports out.old out.new out_buffer.old out_buffer.new
         (report_text session.new) result }
 {
     a_session_plan_names_its_segments();
     the_ranking_has_documents_of_the_scores();
-    let report = session.grant(index, pool, budget, steps);
+    let report = session.grant(source, pool, budget, steps);
     let query = session.query();
     gather_turn(
         query.id.as_str(),
@@ -116,7 +117,7 @@ fn gather_budget<R: Sink, O: Sink, L: Ledger>(
         session.answer(),
         part,
         tag,
-        index,
+        source,
         run,
         run_buffer,
         out,
@@ -125,27 +126,27 @@ fn gather_budget<R: Sink, O: Sink, L: Ledger>(
 }
 
 /// Gathers an answer, and then its report.
-fn gather_turn<R: Sink, O: Sink>(
+fn gather_turn<S: NamedSource, R: Sink, O: Sink>(
     id: &str,
     unknown: u32,
     report: Report,
     hits: &[Hit],
     part: u32,
     tag: &str,
-    index: &IndexFile,
+    source: &S,
     run: &mut R,
     run_buffer: &mut Buffer,
     out: &mut O,
     out_buffer: &mut Buffer,
 ) -> Result<(), SearchOutput>
-    requires { All (λ (hit : Hit). hit.doc < length index.now.index.names) hits.now }
+    requires { All (λ (hit : Hit). hit.doc < length (S.index source.now).names) hits.now }
     ensures run { Side R.written R.faults R.rest SearchOutput.Run run.old run.new run_buffer.old run_buffer.new
-        (run_lines index.now.index.names id.now (tag_of tag.now part) 1 hits.now) result }
+        (run_lines (S.index source.now).names id.now (tag_of tag.now part) 1 hits.now) result }
     ensures out { Side O.written O.faults O.rest SearchOutput.Reports out.old out.new out_buffer.old out_buffer.new
         (report_line id.now report unknown) result }
 {
     let room = out_buffer.room();
-    match gather_hits(id, hits, part, tag, index, run, run_buffer, room) {
+    match gather_hits(id, hits, part, tag, source, run, run_buffer, room) {
         Ok(()) => {}
         Err(_) => return Err(SearchOutput::Run),
     }
@@ -157,21 +158,21 @@ fn gather_turn<R: Sink, O: Sink>(
 
 /// Gathers an answer. Where a report may find too little room and so send those before it, the run
 /// goes first, so that no report is out before the run lines of its query.
-fn gather_hits<R: Sink>(
+fn gather_hits<S: NamedSource, R: Sink>(
     id: &str,
     hits: &[Hit],
     part: u32,
     tag: &str,
-    index: &IndexFile,
+    source: &S,
     run: &mut R,
     run_buffer: &mut Buffer,
     room: usize,
 ) -> Result<(), WriteFault>
-    requires { All (λ (hit : Hit). hit.doc < length index.now.index.names) hits.now }
+    requires { All (λ (hit : Hit). hit.doc < length (S.index source.now).names) hits.now }
     ensures { Gathers R.written R.faults R.rest run.old run.new run_buffer.old run_buffer.new
-        (run_lines index.now.index.names id.now (tag_of tag.now part) 1 hits.now) result }
+        (run_lines (S.index source.now).names id.now (tag_of tag.now part) 1 hits.now) result }
 {
-    gather_answer(run, run_buffer, id, index, hits, tag, part)?;
+    gather_named(run, run_buffer, id, source, hits, tag, part)?;
     if room >= id.len() + REPORT_BYTES {
         return Ok(());
     }
@@ -179,4 +180,22 @@ fn gather_hits<R: Sink>(
         Ok(()) => Ok(()),
         Err(fault) => Err(fault),
     }
+}
+
+/// Gathers the run lines of an answer, by the names of the index.
+fn gather_named<S: NamedSource, R: Sink>(
+    run: &mut R,
+    run_buffer: &mut Buffer,
+    id: &str,
+    source: &S,
+    hits: &[Hit],
+    tag: &str,
+    part: u32,
+) -> Result<(), WriteFault>
+    requires { All (λ (hit : Hit). hit.doc < length (S.index source.now).names) hits.now }
+    ensures { Gathers R.written R.faults R.rest run.old run.new run_buffer.old run_buffer.new
+        (run_lines (S.index source.now).names id.now (tag_of tag.now part) 1 hits.now) result }
+{
+    source.tells_its_index();
+    gather_answer(run, run_buffer, id, source, hits, tag, part)
 }

@@ -14,19 +14,19 @@ ghost use Rattle.jass_words.specs.declared.word_limits.TheConstants.{MOST_BUDGET
 use crate::search_queries::search_all;
 use crate::search_stop::{SearchOutput, SearchStop};
 use frame_pool::FramePool;
-use index_file::IndexFile;
+use index_file::{NamedSource, Source};
 use jass_base::{Budget, Cabinet, FileSink, Query, Row, Sink, Steps};
 use std::alloc::Global;
 use std::sync::ledger::Ledger;
 
 /// Makes a file the run of queries, and puts their reports on the output.
-pub fn write_search<C: Cabinet, O: Sink, L: Ledger>(
+pub fn write_search<S: NamedSource, C: Cabinet, O: Sink, L: Ledger>(
     alloc: Global,
     queries: Row<Query>,
     k: u32,
     budgets: &[Budget],
     tag: &str,
-    index: &IndexFile,
+    source: &S,
     steps: &mut Steps<L>,
     files: &mut C,
     name: &str,
@@ -35,15 +35,16 @@ pub fn write_search<C: Cabinet, O: Sink, L: Ledger>(
     requires some { 1 ≤ k }
     requires few_hits { k ≤ MOST_HITS }
     requires few_budgets { length budgets.now ≤ MOST_BUDGETS }
-    requires known { AllByRecursion (λ (query : Query). AreKnown index.now.index query.terms) queries }
-    ensures steps { Stepped steps.old steps.new (queries_steps index.now budgets.now (asked_of queries)) result }
+    requires known { AllByRecursion (λ (query : Query). AreKnown (S.index source.now) query.terms) queries }
+    ensures steps { Stepped steps.old steps.new
+        (queries_steps (S.index source.now) budgets.now (asked_of queries)) result }
     ensures run { WroteFile C.told C.write_faults (SearchStop.Unwritten SearchOutput.Run) files.old files.new name.now
-        (queries_run index.now k budgets.now tag.now (asked_of queries)) result }
+        (queries_run (S.index source.now) k budgets.now tag.now (asked_of queries)) result }
     ensures out { WroteSide O.written O.faults O.rest (SearchStop.Unwritten SearchOutput.Reports) out.old out.new
-        (queries_reports index.now k budgets.now (asked_of queries)) result }
+        (queries_reports (S.index source.now) k budgets.now (asked_of queries)) result }
 {
-    index.is_checked();
-    let mut pool = match FramePool::new(alloc, index.docs().div_ceil(256), 1) {
+    source.is_searchable();
+    let mut pool = match FramePool::new(alloc, Source::docs(source).div_ceil(256), 1) {
         Ok(pool) => pool,
         Err(_) => {
             drop(queries);
@@ -60,7 +61,7 @@ pub fn write_search<C: Cabinet, O: Sink, L: Ledger>(
     }
     let mut sink = FileSink { files, name };
     let searched = search_behind(
-        alloc, queries, k, budgets, tag, index, &mut pool, steps, &mut sink, out,
+        alloc, queries, k, budgets, tag, source, &mut pool, steps, &mut sink, out,
     );
     let FileSink { files: _, name: _ } = sink;
     drop(pool);
@@ -68,13 +69,13 @@ pub fn write_search<C: Cabinet, O: Sink, L: Ledger>(
 }
 
 /// Puts the run behind the content of a file.
-fn search_behind<'a, C: Cabinet, O: Sink, L: Ledger>(
+fn search_behind<'a, S: NamedSource, C: Cabinet, O: Sink, L: Ledger>(
     alloc: Global,
     queries: Row<Query>,
     k: u32,
     budgets: &[Budget],
     tag: &str,
-    index: &IndexFile,
+    source: &S,
     pool: &mut FramePool,
     steps: &mut Steps<L>,
     sink: &mut FileSink<'a, C>,
@@ -83,18 +84,19 @@ fn search_behind<'a, C: Cabinet, O: Sink, L: Ledger>(
     requires some { 1 ≤ k }
     requires few_hits { k ≤ MOST_HITS }
     requires few_budgets { length budgets.now ≤ MOST_BUDGETS }
-    requires known { AllByRecursion (λ (query : Query). AreKnown index.now.index query.terms) queries }
-    requires ready { IsReady index.now pool.old }
-    ensures steps { Stepped steps.old steps.new (queries_steps index.now budgets.now (asked_of queries)) result }
+    requires known { AllByRecursion (λ (query : Query). AreKnown (S.index source.now) query.terms) queries }
+    requires ready { IsReady (S.index source.now) pool.old }
+    ensures steps { Stepped steps.old steps.new
+        (queries_steps (S.index source.now) budgets.now (asked_of queries)) result }
     ensures same_reference { sink.new.files.ghost_name ≡ sink.old.files.ghost_name }
     ensures same_name { sink.new.name.now ≡ sink.old.name.now }
     ensures run { WroteBehind C.told C.write_faults (SearchStop.Unwritten SearchOutput.Run)
         sink.old.files.now sink.new.files.now sink.old.name.now
-        (queries_run index.now k budgets.now tag.now (asked_of queries)) result }
+        (queries_run (S.index source.now) k budgets.now tag.now (asked_of queries)) result }
     ensures out { WroteSide O.written O.faults O.rest (SearchStop.Unwritten SearchOutput.Reports) out.old out.new
-        (queries_reports index.now k budgets.now (asked_of queries)) result }
+        (queries_reports (S.index source.now) k budgets.now (asked_of queries)) result }
 {
     search_all(
-        alloc, queries, k, budgets, tag, index, pool, steps, sink, out,
+        alloc, queries, k, budgets, tag, source, pool, steps, sink, out,
     )
 }

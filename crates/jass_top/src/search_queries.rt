@@ -16,7 +16,7 @@ use crate::search_budgets::gather_budgets;
 use crate::search_stop::{SearchOutput, SearchStop};
 use frame_pool::FramePool;
 use gathered_text::{Buffer, flush};
-use index_file::IndexFile;
+use index_file::NamedSource;
 use jass_base::{Budget, Query, Row, Sink, Steps};
 use session_engine::laws::a_standing_session_has_its_chain;
 use session_engine::{OpenStop, Session};
@@ -24,13 +24,13 @@ use std::alloc::Global;
 use std::sync::ledger::Ledger;
 
 /// Answers queries one after another, each budget by budget: run lines on one output, report lines on the other.
-pub fn search_all<R: Sink, O: Sink, L: Ledger>(
+pub fn search_all<S: NamedSource, R: Sink, O: Sink, L: Ledger>(
     alloc: Global,
     queries: Row<Query>,
     k: u32,
     budgets: &[Budget],
     tag: &str,
-    index: &IndexFile,
+    source: &S,
     pool: &mut FramePool,
     steps: &mut Steps<L>,
     run: &mut R,
@@ -39,13 +39,14 @@ pub fn search_all<R: Sink, O: Sink, L: Ledger>(
     requires some { 1 ≤ k }
     requires few_hits { k ≤ MOST_HITS }
     requires few_budgets { length budgets.now ≤ MOST_BUDGETS }
-    requires known { AllByRecursion (λ (query : Query). AreKnown index.now.index query.terms) queries }
-    requires ready { IsReady index.now pool.old }
-    ensures steps { Stepped steps.old steps.new (queries_steps index.now budgets.now (asked_of queries)) result }
+    requires known { AllByRecursion (λ (query : Query). AreKnown (S.index source.now) query.terms) queries }
+    requires ready { IsReady (S.index source.now) pool.old }
+    ensures steps { Stepped steps.old steps.new
+        (queries_steps (S.index source.now) budgets.now (asked_of queries)) result }
     ensures run { WroteSide R.written R.faults R.rest (SearchStop.Unwritten SearchOutput.Run) run.old run.new
-        (queries_run index.now k budgets.now tag.now (asked_of queries)) result }
+        (queries_run (S.index source.now) k budgets.now tag.now (asked_of queries)) result }
     ensures out { WroteSide O.written O.faults O.rest (SearchStop.Unwritten SearchOutput.Reports) out.old out.new
-        (queries_reports index.now k budgets.now (asked_of queries)) result }
+        (queries_reports (S.index source.now) k budgets.now (asked_of queries)) result }
 {
     let mut run_buffer = Buffer::new();
     let mut out_buffer = Buffer::new();
@@ -55,7 +56,7 @@ pub fn search_all<R: Sink, O: Sink, L: Ledger>(
         k,
         budgets,
         tag,
-        index,
+        source,
         pool,
         steps,
         run,
@@ -74,13 +75,13 @@ pub fn search_all<R: Sink, O: Sink, L: Ledger>(
 }
 
 /// Gathers the lines of all queries.
-fn gather_queries<R: Sink, O: Sink, L: Ledger>(
+fn gather_queries<S: NamedSource, R: Sink, O: Sink, L: Ledger>(
     alloc: Global,
     queries: Row<Query>,
     k: u32,
     budgets: &[Budget],
     tag: &str,
-    index: &IndexFile,
+    source: &S,
     pool: &mut FramePool,
     steps: &mut Steps<L>,
     run: &mut R,
@@ -91,32 +92,33 @@ fn gather_queries<R: Sink, O: Sink, L: Ledger>(
     requires some { 1 ≤ k }
     requires few_hits { k ≤ MOST_HITS }
     requires few_budgets { length budgets.now ≤ MOST_BUDGETS }
-    requires known { AllByRecursion (λ (query : Query). AreKnown index.now.index query.terms) queries }
-    requires ready { IsReady index.now pool.old }
-    ensures steps { Stepped steps.old steps.new (queries_steps index.now budgets.now (asked_of queries)) result }
+    requires known { AllByRecursion (λ (query : Query). AreKnown (S.index source.now) query.terms) queries }
+    requires ready { IsReady (S.index source.now) pool.old }
+    ensures steps { Stepped steps.old steps.new
+        (queries_steps (S.index source.now) budgets.now (asked_of queries)) result }
     ensures run { Side R.written R.faults R.rest (SearchStop.Unwritten SearchOutput.Run)
         run.old run.new run_buffer.old run_buffer.new
-        (queries_run index.now k budgets.now tag.now (asked_of queries)) result }
+        (queries_run (S.index source.now) k budgets.now tag.now (asked_of queries)) result }
     ensures out { Side O.written O.faults O.rest (SearchStop.Unwritten SearchOutput.Reports)
         out.old out.new out_buffer.old out_buffer.new
-        (queries_reports index.now k budgets.now (asked_of queries)) result }
+        (queries_reports (S.index source.now) k budgets.now (asked_of queries)) result }
 {
     for query in queries.into_vec() {
         gather_query(
-            alloc, query, k, budgets, tag, index, pool, steps, run, run_buffer, out, out_buffer,
+            alloc, query, k, budgets, tag, source, pool, steps, run, run_buffer, out, out_buffer,
         )?;
     }
     Ok(())
 }
 
 /// Gathers the lines of a query, whose session is closed on each exit.
-fn gather_query<R: Sink, O: Sink, L: Ledger>(
+fn gather_query<S: NamedSource, R: Sink, O: Sink, L: Ledger>(
     alloc: Global,
     query: Query,
     k: u32,
     budgets: &[Budget],
     tag: &str,
-    index: &IndexFile,
+    source: &S,
     pool: &mut FramePool,
     steps: &mut Steps<L>,
     run: &mut R,
@@ -127,19 +129,20 @@ fn gather_query<R: Sink, O: Sink, L: Ledger>(
     requires some { 1 ≤ k }
     requires few_hits { k ≤ MOST_HITS }
     requires few_budgets { length budgets.now ≤ MOST_BUDGETS }
-    requires known { AreKnown index.now.index query.terms }
-    requires ready { IsReady index.now pool.old }
-    ensures ready { IsReady index.now pool.new }
-    ensures steps { Stepped steps.old steps.new (query_steps index.now budgets.now (query_data query)) result }
+    requires known { AreKnown (S.index source.now) query.terms }
+    requires ready { IsReady (S.index source.now) pool.old }
+    ensures ready { IsReady (S.index source.now) pool.new }
+    ensures steps { Stepped steps.old steps.new
+        (query_steps (S.index source.now) budgets.now (query_data query)) result }
     ensures run { Side R.written R.faults R.rest (SearchStop.Unwritten SearchOutput.Run)
         run.old run.new run_buffer.old run_buffer.new
-        (query_run index.now k budgets.now tag.now (query_data query)) result }
+        (query_run (S.index source.now) k budgets.now tag.now (query_data query)) result }
     ensures out { Side O.written O.faults O.rest (SearchStop.Unwritten SearchOutput.Reports)
         out.old out.new out_buffer.old out_buffer.new
-        (query_reports index.now k budgets.now (query_data query)) result }
+        (query_reports (S.index source.now) k budgets.now (query_data query)) result }
 {
     a_standing_session_has_its_chain();
-    let mut session = match Session::open(alloc, index, pool, query, k) {
+    let mut session = match Session::open(alloc, source, pool, query, k) {
         Ok(session) => session,
         Err(OpenStop::NoMemory) => return Err(SearchStop::NoMemory),
         Err(OpenStop::PoolFull { .. }) => unreachable!("the pool has a frame for each page"),
@@ -148,7 +151,7 @@ fn gather_query<R: Sink, O: Sink, L: Ledger>(
         &mut session,
         budgets,
         tag,
-        index,
+        source,
         pool,
         steps,
         run,

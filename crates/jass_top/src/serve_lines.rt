@@ -14,6 +14,7 @@ use crate::serve_stop::ServeStop;
 use feed_lines::laws::{a_line_loses_one_byte, lines_are_passed, pending_bytes_wait};
 use feed_lines::{FeedLines, Filled};
 use gathered_text::{Buffer, flush};
+use index_file::NamedSource;
 use jass_base::{Feed, Sink, Steps, WriteFault};
 use session_desk::{Desk, Went};
 use std::sync::ledger::Ledger;
@@ -21,8 +22,8 @@ use text_lines::laws::lines_end_by_line_feeds;
 
 /// Serves the lines of an input at a desk at which nothing is open: to its end, to a line `end`, or to the most bytes
 /// that are taken. After a fault of the input, and where memory is refused, the replies to the lines before went out.
-pub fn serve_lines<I: Feed, O: Sink, L: Ledger>(
-    desk: &mut Desk,
+pub fn serve_lines<S: NamedSource, I: Feed, O: Sink, L: Ledger>(
+    desk: &mut Desk<S>,
     lines: &mut FeedLines,
     input: &mut I,
     out: &mut O,
@@ -30,7 +31,7 @@ pub fn serve_lines<I: Feed, O: Sink, L: Ledger>(
 ) -> Result<(), ServeStop>
     requires new { desk.old.state ≡ new_state desk.old.state.frames }
     requires nothing { lines.old ≡ nothing_yet MOST_TAKEN }
-    ensures served { (beside : Outer) → Served desk.old.file desk.old.state.frames
+    ensures served { (beside : Outer) → Served (S.index desk.old.source) desk.old.state.frames
         (with_output O.Sink out.old (with_feed I.Feed input.old (with_steps steps.old beside)))
         (with_output O.Sink out.new (with_feed I.Feed input.new (with_steps steps.new beside))) result }
     ensures later { I.faults input.old ≤ I.faults input.new }
@@ -56,8 +57,8 @@ pub fn serve_lines<I: Feed, O: Sink, L: Ledger>(
 }
 
 /// Answers what waits at the end of the input, which is a line where it has bytes, and sends the reply.
-fn answer_last<O: Sink, L: Ledger>(
-    desk: &mut Desk,
+fn answer_last<S: NamedSource, O: Sink, L: Ledger>(
+    desk: &mut Desk<S>,
     lines: &FeedLines,
     out: &mut O,
     buffer: &mut Buffer,
@@ -66,7 +67,7 @@ fn answer_last<O: Sink, L: Ledger>(
     requires empty { buffer.old ≡ [] }
     requires free { All (λ b. b ≢ 10) lines.now.bytes }
     ensures answers { AnswersLast O.written O.faults O.rest out.old out.new steps.old steps.new
-        desk.old.file lines.now desk.old.state result }
+        (S.index desk.old.source) lines.now desk.old.state result }
 {
     a_line_loses_one_byte();
     lines_are_passed();
@@ -109,16 +110,16 @@ fn last_line(lines: &FeedLines) -> &[u8]
 }
 
 /// Answers the lines that wait, up to one that is `end` or wants memory, and sends the replies.
-pub fn serve_waiting<O: Sink, L: Ledger>(
-    desk: &mut Desk,
+pub fn serve_waiting<S: NamedSource, O: Sink, L: Ledger>(
+    desk: &mut Desk<S>,
     lines: &mut FeedLines,
     out: &mut O,
     buffer: &mut Buffer,
     steps: &mut Steps<L>,
 ) -> Result<Went, WriteFault>
-    ensures file { desk.new.file ≡ desk.old.file }
+    ensures source { desk.new.source ≡ desk.old.source }
     ensures answers { AnswersLines O.written O.faults O.rest out.old out.new buffer.old [] steps.old steps.new
-        desk.old.file lines.old lines.new desk.old.state desk.new.state result }
+        (S.index desk.old.source) lines.old lines.new desk.old.state desk.new.state result }
     ensures empty { IfOk result (λ _. buffer.new ≡ []) }
     ensures free { result ≡ Ok Went.On → All (λ b. b ≢ 10) lines.new.bytes }
 {
@@ -130,16 +131,16 @@ pub fn serve_waiting<O: Sink, L: Ledger>(
 }
 
 /// Answers the lines that wait, up to one that is `end` or wants memory.
-fn answer_waiting<O: Sink, L: Ledger>(
-    desk: &mut Desk,
+fn answer_waiting<S: NamedSource, O: Sink, L: Ledger>(
+    desk: &mut Desk<S>,
     lines: &mut FeedLines,
     out: &mut O,
     buffer: &mut Buffer,
     steps: &mut Steps<L>,
 ) -> Result<Went, WriteFault>
-    ensures file { desk.new.file ≡ desk.old.file }
+    ensures source { desk.new.source ≡ desk.old.source }
     ensures answers { AnswersLines O.written O.faults O.rest out.old out.new buffer.old buffer.new steps.old steps.new
-        desk.old.file lines.old lines.new desk.old.state desk.new.state result }
+        (S.index desk.old.source) lines.old lines.new desk.old.state desk.new.state result }
     ensures free { result ≡ Ok Went.On → All (λ b. b ≢ 10) lines.new.bytes }
 {
     'lines: while let Some(end) = lines.end_of_line() {
@@ -154,8 +155,8 @@ fn answer_waiting<O: Sink, L: Ledger>(
 }
 
 /// Answers the first line that waits, and passes it where others may follow.
-fn answer_first<O: Sink, L: Ledger>(
-    desk: &mut Desk,
+fn answer_first<S: NamedSource, O: Sink, L: Ledger>(
+    desk: &mut Desk<S>,
     lines: &mut FeedLines,
     end: usize,
     out: &mut O,
@@ -163,9 +164,9 @@ fn answer_first<O: Sink, L: Ledger>(
     steps: &mut Steps<L>,
 ) -> Result<Went, WriteFault>
     requires { EndsFirst lines.old.bytes end }
-    ensures file { desk.new.file ≡ desk.old.file }
+    ensures source { desk.new.source ≡ desk.old.source }
     ensures answers { AnswersLines O.written O.faults O.rest out.old out.new buffer.old buffer.new steps.old steps.new
-        desk.old.file lines.old lines.new desk.old.state desk.new.state result }
+        (S.index desk.old.source) lines.old lines.new desk.old.state desk.new.state result }
     ensures shorter { result ≡ Ok Went.On → length lines.new.bytes < length lines.old.bytes }
 {
     a_line_loses_one_byte();

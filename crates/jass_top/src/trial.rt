@@ -18,7 +18,7 @@ use crate::memory_file::{open_text, text_in_memory};
 use crate::stop::{OUTPUT, Place, Stop};
 use crate::trial_lines::put_summary;
 use crate::trial_queries::try_queries;
-use index_file::IndexFile;
+use index_file::{IndexFile, Source};
 use index_model::laws::indexes_in_memory_are_indexes;
 use index_write::totals;
 use jass_base::limits::MOST_POSTINGS;
@@ -74,7 +74,6 @@ fn try_file<'a, O: Sink, L: Ledger>(
 ) -> Result<(), Stop<'a>>
     requires terms { 1 ≤ terms }
     requires queries { queries ≤ MOST_QUERIES }
-    requires view { IsFileView index.now }
     requires chosen { index.now ≡ chosen_view index.now.index }
     requires accepted { judge_trial index.now.index ≡ Accepted index.now.index }
     ensures { (beside : Outer) → Runs (tried_meaning index.now.index (queries_from terms queries draws.old))
@@ -82,6 +81,7 @@ fn try_file<'a, O: Sink, L: Ledger>(
         (with_output O.Sink out.new (with_steps steps.new beside)) result }
 {
     a_trial_leaves_its_summary();
+    index.is_searchable();
     let sums = match try_queries(alloc, index, draws, terms, queries, steps) {
         Ok(sums) => sums,
         Err(_) => return Err(Stop::NoMemory),

@@ -16,7 +16,8 @@ pub fn put_summary<O: Sink>(
     index: &IndexFile,
     sums: TrialSums,
 ) -> Result<(), WriteFault>
-    ensures { Wrote O.written O.faults O.rest out.old out.new (trial_text index.now sums) result }
+    ensures { Wrote O.written O.faults O.rest out.old out.new
+        (trial_text index.now.index (codec_use index.now.codecs) sums) result }
 {
     put_use(out, index)?;
     put_sum(out, b"1000", sums.first)?;

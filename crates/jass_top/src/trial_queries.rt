@@ -15,12 +15,12 @@ ghost use Rattle.jass_base.specs.declared.limits.TheConstants.{MOST_TERM_WORDS};
 ghost use Rattle.jass_top.specs.Private.SmallSums.{AreSmallSums, IsSmallSum};
 ghost use Rattle.jass_words.specs.declared.word_limits.TheConstants.{MOST_QUERIES};
 
+use crate::named_words::name_words;
 use crate::trial_sums::{BudgetSum, TrialSums};
 use frame_pool::FramePool;
 use frame_pool::laws::calls_on_one_chain;
-use index_file::{IndexFile, Source};
+use index_file::{NamedSource, Source};
 use jass_base::{Budget, NoMemory, Steps};
-use query_reader::name_terms;
 use ranking_model::laws::the_prefix_is_the_longest;
 use session_engine::laws::{
     a_session_plan_is_small, a_standing_session_has_its_chain, one_entry_more_is_scored,
@@ -30,16 +30,14 @@ use std::alloc::Global;
 use std::sync::ledger::Ledger;
 use trial_data::{Draws, draw_query};
 
-/// The id of each query, and how many hits are asked for.
-const ID: &str = "q";
-
+/// How many hits are asked for.
 const HITS: u32 = 10;
 
 /// Draws so many queries of so many terms, answers each in a session of its own, and sums up what
 /// was answered after each grant.
-pub fn try_queries<L: Ledger>(
+pub fn try_queries<S: NamedSource, L: Ledger>(
     alloc: Global,
-    index: &IndexFile,
+    source: &S,
     draws: &mut Draws,
     terms: u32,
     queries: u32,
@@ -47,13 +45,13 @@ pub fn try_queries<L: Ledger>(
 ) -> Result<TrialSums, NoMemory>
     requires terms { 0 < terms }
     requires queries { queries ≤ MOST_QUERIES }
-    ensures sums { IfOk result (λ sums. sums ≡ with_queries index.now
-        (queries_over index.now.index (queries_from terms queries draws.old)) no_sums) }
-    ensures steps { Stepped steps.old steps.new (queries_steps index.now trial_budgets
-        (queries_over index.now.index (queries_from terms queries draws.old))) result }
+    ensures sums { IfOk result (λ sums. sums ≡ with_queries (S.index source.now)
+        (queries_over (S.index source.now) (queries_from terms queries draws.old)) no_sums) }
+    ensures steps { Stepped steps.old steps.new (queries_steps (S.index source.now) trial_budgets
+        (queries_over (S.index source.now) (queries_from terms queries draws.old))) result }
 {
-    index.is_checked();
-    let Ok(mut pool) = FramePool::new(alloc, index.docs().div_ceil(256), 1) else {
+    source.is_searchable();
+    let Ok(mut pool) = FramePool::new(alloc, Source::docs(source).div_ceil(256), 1) else {
         return Err(NoMemory);
     };
     let mut sums = TrialSums::new();
@@ -65,7 +63,7 @@ pub fn try_queries<L: Ledger>(
                 return Err(refused);
             }
         };
-        let tried = try_query(alloc, words.as_slice(), index, &mut pool, sums, steps);
+        let tried = try_query(alloc, words.as_slice(), source, &mut pool, sums, steps);
         drop(words);
         match tried {
             Ok(more) => sums = more,
@@ -80,63 +78,63 @@ pub fn try_queries<L: Ledger>(
 }
 
 /// Answers a query of words in a session, which is closed on each exit.
-fn try_query<L: Ledger>(
+fn try_query<S: NamedSource, L: Ledger>(
     alloc: Global,
     words: &[String],
-    index: &IndexFile,
+    source: &S,
     pool: &mut FramePool,
     sums: TrialSums,
     steps: &mut Steps<L>,
 ) -> Result<TrialSums, NoMemory>
     requires few { length words.now ≤ MOST_TERM_WORDS }
-    requires ready { IsReady index.now pool.old }
+    requires ready { IsReady (S.index source.now) pool.old }
     requires small { AreSmallSums MOST_QUERIES sums }
-    ensures ready { IsReady index.now pool.new }
+    ensures ready { IsReady (S.index source.now) pool.new }
     ensures sums { IfOk result (λ more. more
-        ≡ with_query index.now (words_query index.now.index (texts words.now)) sums) }
+        ≡ with_query (S.index source.now) (words_query (S.index source.now) (texts words.now)) sums) }
     ensures small { (n : ℕ) → AreSmallSums n sums → IfOk result (AreSmallSums (n + 1)) }
     ensures steps { Stepped steps.old steps.new
-        (query_steps index.now trial_budgets (words_query index.now.index (texts words.now))) result }
+        (query_steps (S.index source.now) trial_budgets (words_query (S.index source.now) (texts words.now))) result }
 {
     a_standing_session_has_its_chain();
-    let Ok(query) = name_terms(alloc, ID, words, index) else {
+    let Ok(query) = name_words(alloc, words, source) else {
         return Err(NoMemory);
     };
-    let mut session = match Session::open(alloc, index, pool, query, HITS) {
+    let mut session = match Session::open(alloc, source, pool, query, HITS) {
         Ok(session) => session,
         Err(OpenStop::NoMemory) => return Err(NoMemory),
         Err(OpenStop::PoolFull { .. }) => unreachable!("the pool has a frame for each page"),
     };
-    let more = try_grants(&mut session, index, pool, sums, steps);
+    let more = try_grants(&mut session, source, pool, sums, steps);
     session.close(pool);
     Ok(more)
 }
 
 /// Grants a session its three budgets, and adds what it answers after each.
-fn try_grants<L: Ledger>(
+fn try_grants<S: Source, L: Ledger>(
     session: &mut Session,
-    index: &IndexFile,
+    source: &S,
     pool: &mut FramePool,
     sums: TrialSums,
     steps: &mut Steps<L>,
 ) -> TrialSums
-    requires stands { SessionStands session.old index.now.index pool.old }
+    requires stands { SessionStands session.old (S.index source.now) pool.old }
     requires none { granted_of session.old ≡ 0 }
     requires hits { k_of session.old ≡ 10 }
     requires small { AreSmallSums MOST_QUERIES sums }
-    ensures stands { SessionStands session.new index.now.index pool.new }
+    ensures stands { SessionStands session.new (S.index source.now) pool.new }
     ensures same { IsSessionOf session.old session.new }
     ensures leaves { LeavesPool pool.old pool.new (chain_of session.old) }
-    ensures sums { result ≡ with_query index.now (query_data (query_of session.old)) sums }
+    ensures sums { result ≡ with_query (S.index source.now) (query_data (query_of session.old)) sums }
     ensures small { (n : ℕ) → AreSmallSums n sums → AreSmallSums (n + 1) result }
     ensures steps { steps.new ≡ steps.old
-        + query_steps index.now trial_budgets (query_data (query_of session.old)) }
+        + query_steps (S.index source.now) trial_budgets (query_data (query_of session.old)) }
 {
     the_prefix_is_the_longest();
     calls_on_one_chain();
     let first = try_grant(
         session,
-        index,
+        source,
         pool,
         Budget::Postings(1_000),
         sums.first,
@@ -144,13 +142,13 @@ fn try_grants<L: Ledger>(
     );
     let second = try_grant(
         session,
-        index,
+        source,
         pool,
         Budget::Postings(9_000),
         sums.second,
         steps,
     );
-    let last = try_grant(session, index, pool, Budget::All, sums.last, steps);
+    let last = try_grant(session, source, pool, Budget::All, sums.last, steps);
     TrialSums {
         first,
         second,
@@ -159,28 +157,28 @@ fn try_grants<L: Ledger>(
 }
 
 /// Grants a session a budget, and adds what it then answers.
-fn try_grant<L: Ledger>(
+fn try_grant<S: Source, L: Ledger>(
     session: &mut Session,
-    index: &IndexFile,
+    source: &S,
     pool: &mut FramePool,
     budget: Budget,
     sum: BudgetSum,
     steps: &mut Steps<L>,
 ) -> BudgetSum
-    requires stands { SessionStands session.old index.now.index pool.old }
+    requires stands { SessionStands session.old (S.index source.now) pool.old }
     requires hits { k_of session.old ≡ 10 }
     requires small { IsSmallSum MOST_QUERIES sum }
-    ensures stands { SessionStands session.new index.now.index pool.new }
+    ensures stands { SessionStands session.new (S.index source.now) pool.new }
     ensures granted { granted_of session.new ≡ granted_with (granted_of session.old) budget }
     ensures same { IsSessionOf session.old session.new }
     ensures leaves { LeavesPool pool.old pool.new (chain_of session.old) }
     ensures steps { steps.new + (report_of session.old).postings ≡ steps.old + (report_of session.new).postings }
-    ensures sum { result ≡ with_answer sum (report_of session.new) (answer_over index.now.index session.new) }
+    ensures sum { result ≡ with_answer sum (report_of session.new) (answer_over (S.index source.now) session.new) }
     ensures small { (n : ℕ) → IsSmallSum n sum → IsSmallSum (n + 1) result }
 {
     a_session_plan_is_small();
     one_entry_more_is_scored();
-    index.is_searchable();
-    let report = session.grant(index, pool, budget, steps);
+    source.is_searchable();
+    let report = session.grant(source, pool, budget, steps);
     sum.with(report, session.answer())
 }

@@ -126,12 +126,19 @@ abbrev pub reply_of : (OpenSession → List ℕ) → Option OpenSession → List
 reply_of text (Some session) = text session
 reply_of text None = refusal_line UnknownSession
 
+-- the reply to `close`, and the state after it: neither depends on the index
+abbrev pub close_reply : DeskState → List ℕ → List ℕ
+close_reply state name = reply_of (λ session. closed_text name) (session_named name state)
+
+abbrev pub after_close : DeskState → List ℕ → DeskState
+after_close state name = record state { sessions = without_named name state.sessions }
+
 abbrev pub command_reply : IndexData → DeskState → DeskCommand → List ℕ
 command_reply index state (Open name k words) = opened_reply index (opening index state name k words)
 command_reply index state (Grant name budget) = reply_of (λ session. report_text index (granted_more budget session)) (session_named name state)
 command_reply index state (Top name) = reply_of (answer_text index) (session_named name state)
 command_reply index state (Why name) = reply_of (report_text index) (session_named name state)
-command_reply index state (Close name) = reply_of (λ session. closed_text name) (session_named name state)
+command_reply index state (Close name) = close_reply state name
 command_reply index state End = end_text
 
 -- the state after it
@@ -140,7 +147,7 @@ command_after index state (Open name k words) = with_opened state (opening index
 command_after index state (Grant name budget) = record state { sessions = with_named name (granted_more budget) state.sessions }
 command_after index state (Top name) = state
 command_after index state (Why name) = state
-command_after index state (Close name) = record state { sessions = without_named name state.sessions }
+command_after index state (Close name) = after_close state name
 command_after index state End = state
 
 -- the postings that a grant scores newly

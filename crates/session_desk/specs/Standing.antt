@@ -1,5 +1,5 @@
 -- What the sessions in one pool show of a desk.
-use Rattle.std.specs.Prelude.{ℕ, ⊤, List, [], length, map}
+use Rattle.std.specs.Prelude.{List, length, map}
 use Rattle.ranking_model.specs.Search.{query_data}
 use Rattle.session_engine.specs.Standing.{granted_of, k_of, query_of}
 use Rattle.session_engine.specs.declared.session.Session.{Session}

@@ -4,7 +4,6 @@ use Rattle.std.specs.List.{find}
 use Rattle.jass_base.specs.declared.answer.Budget.{Budget}
 use Rattle.ranking_model.specs.Plan.{granted_with}
 use Rattle.ranking_model.specs.Search.{QueryData}
-use Rattle.index_layout.specs.View.{FileView}
 use Rattle.index_model.specs.Index.{IndexData}
 use Rattle.session_engine.specs.Plans.{need_of}
 
@@ -19,9 +18,9 @@ pub record DeskState : Type 0 where
   pub sessions : List OpenSession
   pub frames : ℕ
 
--- a desk over an index file
-pub record DeskView : Type 0 where
-  pub file : FileView
+-- a desk over a source of segments
+pub record DeskView (S : Type 0) : Type 0 where
+  pub source : S
   pub state : DeskState
 
 -- nothing is open

@@ -3,8 +3,9 @@ ghost use Rattle.index_model.specs.Index.{IndexData};
 ghost use Rattle.query_reader.specs.Texts.{blank_runs};
 ghost use Rattle.session_desk.specs.Private.Commands.{FitsLine, command_data};
 ghost use Rattle.session_desk.specs.Endings.{left_where, may_take_memory, text_where};
-ghost use Rattle.session_desk.specs.Lines.{Close, Grant, Open, Top, Why, is_end_command};
-ghost use Rattle.session_desk.specs.Replies.{after_of, command_after, command_reply, command_steps, end_text, reply_to, steps_of};
+ghost use Rattle.session_desk.specs.Lines.{Grant, Open, Top, Why, is_end_command};
+ghost use Rattle.session_desk.specs.Replies.{after_close, after_of, close_reply, command_after, command_reply};
+ghost use Rattle.session_desk.specs.Replies.{command_steps, end_text, reply_to, steps_of};
 ghost use Rattle.session_desk.specs.Standing.{state_of};
 ghost use Rattle.session_desk.specs.Private.Standing.{TableStands};
 ghost use Rattle.gathered_text.specs.Gathering.{Gathers};
@@ -17,7 +18,7 @@ use crate::table::Table;
 use crate::texts::{gather_closed, gather_end, gather_hits, gather_opened, gather_refusal};
 use crate::went::Went;
 use gathered_text::Buffer;
-use index_file::IndexFile;
+use index_file::{NamedSource, Source};
 use jass_base::{Budget, Sink, Steps, WriteFault};
 use ranking_model::laws::the_ranking_has_documents_of_the_scores;
 use session_engine::laws::a_session_plan_names_its_segments;
@@ -27,25 +28,25 @@ use trec_run::gather_report;
 
 /// Gathers the reply to a command, or to a bad line where there is none. A command has its effect also where a put
 /// fails.
-pub fn answer<S: Sink, L: Ledger>(
+pub fn answer<S: NamedSource, O: Sink, L: Ledger>(
     table: &mut Table,
     alloc: Global,
-    index: &IndexFile,
+    source: &S,
     command: Option<Command<'_>>,
-    out: &mut S,
+    out: &mut O,
     buffer: &mut Buffer,
     steps: &mut Steps<L>,
 ) -> Result<Went, WriteFault>
-    requires stands { TableStands index.now.index table.old }
+    requires stands { TableStands (S.index source.now) table.old }
     requires fits { FitsLine command }
-    ensures stands { TableStands index.now.index table.new }
-    ensures reply { Gathers S.written S.faults S.rest out.old out.new buffer.old buffer.new
-        (text_where result (reply_to index.now.index (state_of table.old)
+    ensures stands { TableStands (S.index source.now) table.new }
+    ensures reply { Gathers O.written O.faults O.rest out.old out.new buffer.old buffer.new
+        (text_where result (reply_to (S.index source.now) (state_of table.old)
         (option_map command_data command.entry))) result }
     ensures after { state_of table.new ≡ left_where result (state_of table.old)
-        (after_of index.now.index (state_of table.old) (option_map command_data command.entry)) }
+        (after_of (S.index source.now) (state_of table.old) (option_map command_data command.entry)) }
     ensures steps { steps.new
-        ≡ steps.old + steps_of index.now.index (state_of table.old) (option_map command_data command.entry) }
+        ≡ steps.old + steps_of (S.index source.now) (state_of table.old) (option_map command_data command.entry) }
     ensures end { IfOk result (λ went.
         went ≡ Went.End ↔ IsTrue (is_end_command (option_map command_data command.entry))) }
     ensures memory { IfOk result (λ went. went ≡ Went.NoMemory →
@@ -55,15 +56,15 @@ pub fn answer<S: Sink, L: Ledger>(
     let gathered = match command {
         None => gather_refusal(out, buffer, DeskRefusal::BadLine),
         Some(Command::Open { name, k, mentions }) => {
-            return open(table, alloc, index, name, k, mentions, out, buffer);
+            return open(table, alloc, source, name, k, mentions, out, buffer);
         }
         Some(Command::End) => return end(out, buffer),
         Some(Command::Grant { name, budget }) => grant(
-            table, index, name, budget, out, buffer, steps,
+            table, source, name, budget, out, buffer, steps,
         ),
-        Some(Command::Top { name }) => top(table, index, name, out, buffer),
+        Some(Command::Top { name }) => top(table, source, name, out, buffer),
         Some(Command::Why { name }) => why(table, name, out, buffer),
-        Some(Command::Close { name }) => close(table, index, name, out, buffer),
+        Some(Command::Close { name }) => close(table, name, out, buffer),
     };
     match gathered {
         Ok(()) => Ok(Went::On),
@@ -72,30 +73,30 @@ pub fn answer<S: Sink, L: Ledger>(
 }
 
 /// Gathers the reply to `open`, unless memory is refused.
-fn open<S: Sink>(
+fn open<S: NamedSource, O: Sink>(
     table: &mut Table,
     alloc: Global,
-    index: &IndexFile,
+    source: &S,
     name: &str,
     k: u32,
     mentions: &str,
-    out: &mut S,
+    out: &mut O,
     buffer: &mut Buffer,
 ) -> Result<Went, WriteFault>
-    requires stands { TableStands index.now.index table.old }
+    requires stands { TableStands (S.index source.now) table.old }
     requires fits { (1 ≤ k) × (k ≤ MOST_HITS) × (length mentions.now ≤ LONGEST_LINE) }
-    ensures stands { TableStands index.now.index table.new }
-    ensures reply { Gathers S.written S.faults S.rest out.old out.new buffer.old buffer.new
+    ensures stands { TableStands (S.index source.now) table.new }
+    ensures reply { Gathers O.written O.faults O.rest out.old out.new buffer.old buffer.new
         (text_where result
-        (command_reply index.now.index (state_of table.old) (Open name.now k (blank_runs mentions.now)))) result }
+        (command_reply (S.index source.now) (state_of table.old) (Open name.now k (blank_runs mentions.now)))) result }
     ensures after { state_of table.new ≡ left_where result (state_of table.old)
-        (command_after index.now.index (state_of table.old) (Open name.now k (blank_runs mentions.now))) }
+        (command_after (S.index source.now) (state_of table.old) (Open name.now k (blank_runs mentions.now))) }
     ensures on { IfOk result (λ went. went ≡ Went.End → ⊥) }
     ensures memory { IfOk result (λ went. went ≡ Went.NoMemory →
         IsTrue (may_take_memory (state_of table.old) (Some (Open name.now k (blank_runs mentions.now))))) }
     ensures untouched { result ≡ Ok Went.NoMemory → (out.new ≡ out.old) × (buffer.new ≡ buffer.old) }
 {
-    let gathered = match table.open(alloc, index, name, k, mentions) {
+    let gathered = match table.open(alloc, source, name, k, mentions) {
         Ok(opened) => gather_opened(out, buffer, name, opened.need, opened.unknown),
         Err(SessionFault::Refused(refusal)) => gather_refusal(out, buffer, refusal),
         Err(SessionFault::NoMemory) => return Ok(Went::NoMemory),
@@ -107,8 +108,8 @@ fn open<S: Sink>(
 }
 
 /// Gathers the reply to `end`.
-fn end<S: Sink>(out: &mut S, buffer: &mut Buffer) -> Result<Went, WriteFault>
-    ensures reply { Gathers S.written S.faults S.rest out.old out.new buffer.old buffer.new end_text result }
+fn end<O: Sink>(out: &mut O, buffer: &mut Buffer) -> Result<Went, WriteFault>
+    ensures reply { Gathers O.written O.faults O.rest out.old out.new buffer.old buffer.new end_text result }
     ensures end { IfOk result (λ went. went ≡ Went.End) }
 {
     match gather_end(out, buffer) {
@@ -118,57 +119,59 @@ fn end<S: Sink>(out: &mut S, buffer: &mut Buffer) -> Result<Went, WriteFault>
 }
 
 /// Gathers the reply to `grant`.
-fn grant<S: Sink, L: Ledger>(
+fn grant<S: Source, O: Sink, L: Ledger>(
     table: &mut Table,
-    index: &IndexFile,
+    source: &S,
     name: &str,
     budget: Budget,
-    out: &mut S,
+    out: &mut O,
     buffer: &mut Buffer,
     steps: &mut Steps<L>,
 ) -> Result<(), WriteFault>
-    requires stands { TableStands index.now.index table.old }
-    ensures stands { TableStands index.now.index table.new }
-    ensures reply { Gathers S.written S.faults S.rest out.old out.new buffer.old buffer.new
-        (command_reply index.now.index (state_of table.old) (Grant name.now budget)) result }
-    ensures after { state_of table.new ≡ command_after index.now.index (state_of table.old) (Grant name.now budget) }
-    ensures steps { steps.new ≡ steps.old + command_steps index.now.index (state_of table.old) (Grant name.now budget) }
+    requires stands { TableStands (S.index source.now) table.old }
+    ensures stands { TableStands (S.index source.now) table.new }
+    ensures reply { Gathers O.written O.faults O.rest out.old out.new buffer.old buffer.new
+        (command_reply (S.index source.now) (state_of table.old) (Grant name.now budget)) result }
+    ensures after { state_of table.new
+        ≡ command_after (S.index source.now) (state_of table.old) (Grant name.now budget) }
+    ensures steps { steps.new
+        ≡ steps.old + command_steps (S.index source.now) (state_of table.old) (Grant name.now budget) }
 {
-    match table.grant(index, name, budget, steps) {
+    match table.grant(source, name, budget, steps) {
         Some(told) => gather_report(out, buffer, name, told.unknown, told.report),
         None => gather_refusal(out, buffer, DeskRefusal::UnknownSession),
     }
 }
 
 /// Gathers the reply to `top`.
-fn top<S: Sink>(
+fn top<S: NamedSource, O: Sink>(
     table: &Table,
-    index: &IndexFile,
+    source: &S,
     name: &str,
-    out: &mut S,
+    out: &mut O,
     buffer: &mut Buffer,
 ) -> Result<(), WriteFault>
-    requires stands { TableStands index.now.index table.now }
-    ensures { Gathers S.written S.faults S.rest out.old out.new buffer.old buffer.new
-        (command_reply index.now.index (state_of table.now) (Top name.now)) result }
+    requires stands { TableStands (S.index source.now) table.now }
+    ensures { Gathers O.written O.faults O.rest out.old out.new buffer.old buffer.new
+        (command_reply (S.index source.now) (state_of table.now) (Top name.now)) result }
 {
     a_session_plan_names_its_segments();
     the_ranking_has_documents_of_the_scores();
     match table.session(name) {
-        Some(session) => gather_hits(out, buffer, name, index, session.answer()),
+        Some(session) => gather_hits(out, buffer, name, source, session.answer()),
         None => gather_refusal(out, buffer, DeskRefusal::UnknownSession),
     }
 }
 
 /// Gathers the reply to `why`.
-fn why<S: Sink>(
+fn why<O: Sink>(
     table: &Table,
     name: &str,
-    out: &mut S,
+    out: &mut O,
     buffer: &mut Buffer,
 ) -> Result<(), WriteFault>
     ensures { (index : IndexData) → TableStands index table.now →
-        Gathers S.written S.faults S.rest out.old out.new buffer.old buffer.new
+        Gathers O.written O.faults O.rest out.old out.new buffer.old buffer.new
         (command_reply index (state_of table.now) (Why name.now)) result }
 {
     match table.told(name) {
@@ -178,20 +181,19 @@ fn why<S: Sink>(
 }
 
 /// Gathers the reply to `close`.
-fn close<S: Sink>(
+fn close<O: Sink>(
     table: &mut Table,
-    index: &IndexFile,
     name: &str,
-    out: &mut S,
+    out: &mut O,
     buffer: &mut Buffer,
 ) -> Result<(), WriteFault>
-    requires stands { TableStands index.now.index table.old }
-    ensures stands { TableStands index.now.index table.new }
-    ensures reply { Gathers S.written S.faults S.rest out.old out.new buffer.old buffer.new
-        (command_reply index.now.index (state_of table.old) (Close name.now)) result }
-    ensures after { state_of table.new ≡ command_after index.now.index (state_of table.old) (Close name.now) }
+    requires stands { (index : IndexData) × TableStands index table.old }
+    ensures stands { (index : IndexData) → TableStands index table.old → TableStands index table.new }
+    ensures reply { Gathers O.written O.faults O.rest out.old out.new buffer.old buffer.new
+        (close_reply (state_of table.old) name.now) result }
+    ensures after { state_of table.new ≡ after_close (state_of table.old) name.now }
 {
-    if table.close(index, name) {
+    if table.close(name) {
         gather_closed(out, buffer, name)
     } else {
         gather_refusal(out, buffer, DeskRefusal::UnknownSession)

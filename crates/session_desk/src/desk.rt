@@ -11,68 +11,68 @@ use crate::reading::read_command;
 use crate::table::Table;
 use crate::went::Went;
 use gathered_text::Buffer;
-use index_file::IndexFile;
+use index_file::NamedSource;
 use jass_base::{NoMemory, Sink, Steps, WriteFault};
 use std::alloc::Global;
 use std::marker::Model;
 use std::sync::ledger::Ledger;
 
-/// Up to 64 sessions over one index file, in the frames of one pool. It ends only by `close`.
+/// Up to 64 sessions over one source of segments, in the frames of one pool. It ends only by `close`.
 ///
-/// Contracts see it as its index file, its sessions by opening, and the number of its frames.
-pub struct Desk {
+/// Contracts see it as its source, its sessions by opening, and the number of its frames.
+pub struct Desk<S: NamedSource> {
     alloc: Global,
-    index: IndexFile,
+    source: S,
     table: Table,
 }
 
-impl Model for Desk {
+impl<S: NamedSource> Model for Desk<S> {
     ghost use Rattle.session_desk.specs.State.{DeskView};
     ghost use Rattle.session_desk.specs.Standing.{state_of};
     ghost use Rattle.session_desk.specs.Private.Standing.{TableStands};
 
-    ghost Value = { DeskView };
+    ghost Value = { DeskView S };
 
-    ghost view = { λ d. record { file = d.index; state = state_of d.table } };
+    ghost view = { λ d. record { source = d.source; state = state_of d.table } };
 
-    ghost invariant = { λ d. TableStands d.index.index d.table };
+    ghost invariant = { λ d. TableStands (S.index d.source) d.table };
 }
 
-impl Desk {
+impl<S: NamedSource> Desk<S> {
     /// A desk without sessions, and with 1 to 1,048,576 frames of 2,060 bytes each. Where memory is refused it hands
-    /// the index back.
-    pub fn new(alloc: Global, index: IndexFile, frames: u32) -> Result<Desk, (IndexFile, NoMemory)>
+    /// the source back.
+    pub fn new(alloc: Global, source: S, frames: u32) -> Result<Desk<S>, (S, NoMemory)>
         requires some { 1 ≤ frames }
         requires few { frames ≤ MOST_FRAMES }
-        ensures file { IfOk result (λ desk. desk.file ≡ index) }
+        ensures source { IfOk result (λ desk. desk.source ≡ source) }
         ensures state { IfOk result (λ desk. desk.state ≡ new_state frames) }
-        ensures err { IfErr result (λ e. e.0 ≡ index) }
+        ensures err { IfErr result (λ e. e.0 ≡ source) }
     {
         match Table::new(alloc, frames) {
             Ok(table) => Ok(Desk {
                 alloc,
-                index,
+                source,
                 table,
             }),
-            Err(NoMemory) => Err((index, NoMemory)),
+            Err(NoMemory) => Err((source, NoMemory)),
         }
     }
 
     /// Answers a line, which has no line end, and gathers the reply behind others. The line has its effect also after a
     /// `WriteFault`, and then a prefix of what was gathered before and of the reply went out.
-    pub fn answer_line<S: Sink, L: Ledger>(
+    pub fn answer_line<O: Sink, L: Ledger>(
         &mut self,
         line: &[u8],
-        out: &mut S,
+        out: &mut O,
         buffer: &mut Buffer,
         steps: &mut Steps<L>,
     ) -> Result<Went, WriteFault>
-        ensures file { self.new.file ≡ self.old.file }
-        ensures reply { Gathers S.written S.faults S.rest out.old out.new buffer.old buffer.new
-            (text_where result (desk_reply self.old.file.index self.old.state line.now)) result }
+        ensures source { self.new.source ≡ self.old.source }
+        ensures reply { Gathers O.written O.faults O.rest out.old out.new buffer.old buffer.new
+            (text_where result (desk_reply (S.index self.old.source) self.old.state line.now)) result }
         ensures after { self.new.state ≡ left_where result self.old.state
-            (desk_after self.old.file.index self.old.state line.now) }
-        ensures steps { steps.new ≡ steps.old + desk_steps self.old.file.index self.old.state line.now }
+            (desk_after (S.index self.old.source) self.old.state line.now) }
+        ensures steps { steps.new ≡ steps.old + desk_steps (S.index self.old.source) self.old.state line.now }
         ensures end { IfOk result (λ went. went ≡ Went.End ↔ IsTrue (is_end line.now)) }
         ensures memory { IfOk result (λ went. went ≡ Went.NoMemory →
             IsTrue (may_want_memory self.old.state line.now)) }
@@ -82,7 +82,7 @@ impl Desk {
         answer(
             &mut self.table,
             self.alloc,
-            &self.index,
+            &self.source,
             command,
             out,
             buffer,
@@ -90,16 +90,16 @@ impl Desk {
         )
     }
 
-    /// Closes all sessions, and hands the index back.
-    pub fn close(self) -> IndexFile
-        ensures { result ≡ self.file }
+    /// Closes all sessions, and hands the source back.
+    pub fn close(self) -> S
+        ensures { result ≡ self.source }
     {
         let Desk {
             alloc: _,
-            index,
+            source,
             table,
         } = self;
         table.close_all();
-        index
+        source
     }
 }

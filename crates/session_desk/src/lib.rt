@@ -1,8 +1,8 @@
 #![tactic(auto)]
 
-//! A desk: up to 64 sessions over one index file and one pool of frames, opened, granted postings, asked and closed by
-//! lines of text. A reply depends on the lines that name its session alone, but for whether another session may be
-//! opened.
+//! A desk: up to 64 sessions over one source of segments and one pool of frames, opened, granted postings, asked and
+//! closed by lines of text. A reply depends on the lines that name its session alone, but for whether another session
+//! may be opened.
 
 mod answering;
 mod command;

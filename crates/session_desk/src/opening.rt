@@ -1,7 +1,10 @@
-ghost use Rattle.std.specs.Prelude.{◌≡◌, ◌≢◌, ◌≤◌, ◌<◌, Ok, IfNone, IsErrOf, IsTrue, length};
+ghost use Rattle.std.specs.Prelude.{◌≡◌, ◌≢◌, ◌≤◌, ◌<◌, Ok, IfNone, IfOk, IsErrOf, IsTrue, length};
 ghost use Rattle.std.specs.List.{AllByRecursion};
+ghost use Rattle.index_file.specs.Places.{texts_of};
 ghost use Rattle.query_reader.specs.Queries.{query_data};
-ghost use Rattle.query_reader.specs.Texts.{blank_runs};
+ghost use Rattle.query_reader.specs.Reading.{read_mentions};
+ghost use Rattle.query_reader.specs.Refusals.{Answers, at_line};
+ghost use Rattle.query_reader.specs.Texts.{blank_runs, mentions_of};
 ghost use Rattle.session_engine.specs.Plans.{AreKnown};
 ghost use Rattle.session_engine.specs.declared.session.Session.{Session};
 ghost use Rattle.session_desk.specs.Private.Opening.{Opens, refuses};
@@ -14,7 +17,7 @@ ghost use Rattle.session_desk.specs.declared.desk_limits.TheConstants.{MOST_SESS
 use crate::desk_limits::MOST_SESSIONS;
 use crate::refusal::DeskRefusal;
 use crate::table::Table;
-use index_file::IndexFile;
+use index_file::{NamedSource, Source};
 use jass_base::Query;
 use query_reader::{Mode, QueryFault, QueryWhy, read_terms};
 use session_engine::laws::{
@@ -41,21 +44,21 @@ pub enum SessionFault {
 
 impl Table {
     /// Opens a session of this name for k documents. The text has the mentions of its query.
-    pub fn open(
+    pub fn open<S: NamedSource>(
         &mut self,
         alloc: Global,
-        index: &IndexFile,
+        source: &S,
         name: &str,
         k: u32,
         mentions: &str,
     ) -> Result<Opened, SessionFault>
-        requires stands { TableStands index.now.index self.old }
+        requires stands { TableStands (S.index source.now) self.old }
         requires some { 1 ≤ k }
         requires few { k ≤ MOST_HITS }
         requires fits { length mentions.now ≤ LONGEST_LINE }
-        ensures stands { TableStands index.now.index self.new }
-        ensures opens { Opens index.now.index
-            (opening index.now.index (state_of self.old) name.now k (blank_runs mentions.now))
+        ensures stands { TableStands (S.index source.now) self.new }
+        ensures opens { Opens (S.index source.now)
+            (opening (S.index source.now) (state_of self.old) name.now k (blank_runs mentions.now))
             name.now (state_of self.old) (state_of self.new) result }
         ensures memory { IsErrOf result SessionFault.NoMemory → IsTrue (has_room name.now (state_of self.old)) }
     {
@@ -63,8 +66,8 @@ impl Table {
             Some(refusal) => return Err(SessionFault::Refused(refusal)),
             None => {}
         }
-        match read_terms(alloc, name, mentions, Mode::Plain, index) {
-            Ok(query) => self.add(alloc, index, query, k),
+        match query_over(alloc, name, mentions, source) {
+            Ok(query) => self.add(alloc, source, query, k),
             Err(fault) => Err(session_fault(fault)),
         }
     }
@@ -87,28 +90,28 @@ impl Table {
     }
 
     /// Puts a session of a query behind the others, none of which has its name.
-    fn add(
+    fn add<S: Source>(
         &mut self,
         alloc: Global,
-        index: &IndexFile,
+        source: &S,
         query: Query,
         k: u32,
     ) -> Result<Opened, SessionFault>
-        requires stands { TableStands index.now.index self.old }
+        requires stands { TableStands (S.index source.now) self.old }
         requires others { AllByRecursion (λ (s : Session). name_of s ≢ query.id) self.old.sessions.items }
         requires room { length self.old.sessions.items < MOST_SESSIONS }
-        requires known { AreKnown index.now.index query.terms }
+        requires known { AreKnown (S.index source.now) query.terms }
         requires some { 1 ≤ k }
         requires few { k ≤ MOST_HITS }
-        ensures stands { TableStands index.now.index self.new }
-        ensures opens { Opens index.now.index (fitting index.now.index (state_of self.old) k (Ok (query_data query)))
-            query.id (state_of self.old) (state_of self.new) result }
+        ensures stands { TableStands (S.index source.now) self.new }
+        ensures opens { Opens (S.index source.now)
+            (fitting (S.index source.now) (state_of self.old) k (Ok (query_data query))) query.id (state_of self.old) (state_of self.new) result }
     {
         calls_on_other_chains_leave_sessions();
         a_standing_session_has_its_chain();
         let before = self.pool.spare();
         let unknown = query.unknown;
-        match Session::open(alloc, index, &mut self.pool, query, k) {
+        match Session::open(alloc, source, &mut self.pool, query, k) {
             Ok(session) => {
                 self.sessions.push_reserved(session);
                 let need = before - self.pool.spare();
@@ -120,6 +123,22 @@ impl Table {
             Err(OpenStop::NoMemory) => Err(SessionFault::NoMemory),
         }
     }
+}
+
+/// The query of a name with these mentions over the terms of an index.
+fn query_over<S: NamedSource>(
+    alloc: Global,
+    name: &str,
+    mentions: &str,
+    source: &S,
+) -> Result<Query, QueryFault>
+    requires { length mentions.now ≤ LONGEST_LINE }
+    ensures query { Answers query_data result (at_line 1
+        (read_mentions (texts_of (S.index source.now).terms) name.now (mentions_of Mode.Plain mentions.now))) }
+    ensures known { IfOk result (λ query. AreKnown (S.index source.now) query.terms) }
+{
+    source.tells_its_index();
+    read_terms(alloc, name, mentions, Mode::Plain, source)
 }
 
 /// What a fault of mentions is at a desk.

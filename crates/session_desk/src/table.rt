@@ -1,8 +1,8 @@
 ghost use Rattle.std.specs.Prelude.{◌≡◌, ◌≤◌, ◌+◌, IfOk, IfSome, option_map, is_some};
 ghost use Rattle.index_model.specs.Index.{IndexData};
 ghost use Rattle.session_engine.specs.Standing.{SessionStands};
-ghost use Rattle.session_desk.specs.Lines.{Close, Grant};
-ghost use Rattle.session_desk.specs.Replies.{command_after, command_steps};
+ghost use Rattle.session_desk.specs.Lines.{Grant};
+ghost use Rattle.session_desk.specs.Replies.{after_close, command_after, command_steps};
 ghost use Rattle.session_desk.specs.Standing.{session_data, state_of};
 ghost use Rattle.session_desk.specs.Private.Standing.{Differ, TableStands};
 ghost use Rattle.session_desk.specs.Private.Reporting.{told_of};
@@ -13,7 +13,7 @@ ghost use Rattle.jass_base.specs.declared.limits.TheConstants.{MOST_FRAMES};
 use crate::desk_limits::MOST_SESSIONS;
 use crate::told::Told;
 use frame_pool::FramePool;
-use index_file::IndexFile;
+use index_file::Source;
 use jass_base::{Budget, NoMemory, Steps};
 use session_engine::Session;
 use session_engine::laws::{
@@ -56,35 +56,36 @@ impl Table {
     }
 
     /// Grants a budget more to the session of this name, and tells of it. `None` where no such session is open.
-    pub fn grant<L: Ledger>(
+    pub fn grant<S: Source, L: Ledger>(
         &mut self,
-        index: &IndexFile,
+        source: &S,
         name: &str,
         budget: Budget,
         steps: &mut Steps<L>,
     ) -> Option<Told>
-        requires stands { TableStands index.now.index self.old }
-        ensures stands { TableStands index.now.index self.new }
-        ensures told { result ≡ option_map (λ session. told_of index.now.index (granted_more budget session))
+        requires stands { TableStands (S.index source.now) self.old }
+        ensures stands { TableStands (S.index source.now) self.new }
+        ensures told { result ≡ option_map (λ session. told_of (S.index source.now) (granted_more budget session))
             (session_named name.now (state_of self.old)) }
-        ensures after { state_of self.new ≡ command_after index.now.index (state_of self.old) (Grant name.now budget) }
+        ensures after { state_of self.new
+            ≡ command_after (S.index source.now) (state_of self.old) (Grant name.now budget) }
         ensures steps { steps.new
-            ≡ steps.old + command_steps index.now.index (state_of self.old) (Grant name.now budget) }
+            ≡ steps.old + command_steps (S.index source.now) (state_of self.old) (Grant name.now budget) }
     {
         calls_on_other_chains_leave_sessions();
         let place = self.place_of(name)?;
         let session = &mut self.sessions[place];
-        let report = session.grant(index, &mut self.pool, budget, steps);
+        let report = session.grant(source, &mut self.pool, budget, steps);
         let unknown = session.query().unknown;
         Some(Told { report, unknown })
     }
 
     /// Closes the session of this name. False where no such session is open.
-    pub fn close(&mut self, index: &IndexFile, name: &str) -> bool
-        requires stands { TableStands index.now.index self.old }
-        ensures stands { TableStands index.now.index self.new }
+    pub fn close(&mut self, name: &str) -> bool
+        requires stands { (index : IndexData) × TableStands index self.old }
+        ensures stands { (index : IndexData) → TableStands index self.old → TableStands index self.new }
         ensures open { result ≡ is_some (session_named name.now (state_of self.old)) }
-        ensures after { state_of self.new ≡ command_after index.now.index (state_of self.old) (Close name.now) }
+        ensures after { state_of self.new ≡ after_close (state_of self.old) name.now }
     {
         calls_on_other_chains_leave_sessions();
         a_standing_session_has_its_chain();

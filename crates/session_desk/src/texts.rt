@@ -5,8 +5,9 @@ ghost use Rattle.gathered_text.specs.Gathering.{Gathers};
 
 use crate::refusal::DeskRefusal;
 use gathered_text::{Buffer, gather_all};
+use index_file::NamedSource;
 use itoa::Buffer as Digits;
-use jass_base::{Hit, Names, Sink, WriteFault};
+use jass_base::{Hit, Sink, WriteFault};
 use trec_run::gather_answer;
 
 /// The tag of the run lines of an answer.
@@ -14,12 +15,12 @@ const TAG: &str = "jass";
 
 /// Gathers the reply to a refused line.
 #[tactic(auto, unfolding(crate::specs::Replies::refusal_line))]
-pub fn gather_refusal<S: Sink>(
-    out: &mut S,
+pub fn gather_refusal<O: Sink>(
+    out: &mut O,
     buffer: &mut Buffer,
     refusal: DeskRefusal,
 ) -> Result<(), WriteFault>
-    ensures { Gathers S.written S.faults S.rest out.old out.new buffer.old buffer.new (refusal_line refusal) result }
+    ensures { Gathers O.written O.faults O.rest out.old out.new buffer.old buffer.new (refusal_line refusal) result }
 {
     match refusal {
         DeskRefusal::BadLine => gather_text(out, buffer, "refused 70 bad line\n"),
@@ -33,13 +34,13 @@ pub fn gather_refusal<S: Sink>(
 }
 
 /// Gathers the reply to a line that needs more frames than are spare.
-fn gather_pool_full<S: Sink>(
-    out: &mut S,
+fn gather_pool_full<O: Sink>(
+    out: &mut O,
     buffer: &mut Buffer,
     need: u32,
     free: u32,
 ) -> Result<(), WriteFault>
-    ensures { Gathers S.written S.faults S.rest out.old out.new buffer.old buffer.new
+    ensures { Gathers O.written O.faults O.rest out.old out.new buffer.old buffer.new
         (codes "refused 74 pool " ++ (decimal need ++ (codes " " ++ (decimal free ++ codes "\n")))) result }
 {
     let mut need_digits = Digits::new();
@@ -51,14 +52,14 @@ fn gather_pool_full<S: Sink>(
 
 /// Gathers the reply to a line that opened a session.
 #[tactic(auto, unfolding(crate::specs::Replies::opened_line))]
-pub fn gather_opened<S: Sink>(
-    out: &mut S,
+pub fn gather_opened<O: Sink>(
+    out: &mut O,
     buffer: &mut Buffer,
     name: &str,
     need: u32,
     unknown: u32,
 ) -> Result<(), WriteFault>
-    ensures { Gathers S.written S.faults S.rest out.old out.new buffer.old buffer.new
+    ensures { Gathers O.written O.faults O.rest out.old out.new buffer.old buffer.new
         (opened_line name.now need unknown) result }
 {
     let mut need_digits = Digits::new();
@@ -73,14 +74,14 @@ pub fn gather_opened<S: Sink>(
 }
 
 /// Gathers the columns of this reply, which have one lifetime so that they lie in one array.
-fn gather_opened_columns<'x, S: Sink>(
-    out: &mut S,
+fn gather_opened_columns<'x, O: Sink>(
+    out: &mut O,
     buffer: &mut Buffer,
     name: &'x [u8],
     need: &'x [u8],
     unknown: &'x [u8],
 ) -> Result<(), WriteFault>
-    ensures { Gathers S.written S.faults S.rest out.old out.new buffer.old buffer.new
+    ensures { Gathers O.written O.faults O.rest out.old out.new buffer.old buffer.new
         (codes "opened " ++ (name.now ++ (codes " need " ++ (need.now
         ++ (codes " unknown " ++ (unknown.now ++ codes "\n")))))) result }
 {
@@ -101,44 +102,45 @@ fn gather_opened_columns<'x, S: Sink>(
 
 /// Gathers the reply to a line that closed a session.
 #[tactic(auto, unfolding(crate::specs::Replies::closed_text))]
-pub fn gather_closed<S: Sink>(
-    out: &mut S,
+pub fn gather_closed<O: Sink>(
+    out: &mut O,
     buffer: &mut Buffer,
     name: &str,
 ) -> Result<(), WriteFault>
-    ensures { Gathers S.written S.faults S.rest out.old out.new buffer.old buffer.new (closed_text name.now) result }
+    ensures { Gathers O.written O.faults O.rest out.old out.new buffer.old buffer.new (closed_text name.now) result }
 {
     gather_all(out, buffer, &[b"closed ", name.as_bytes(), b"\n"])
 }
 
 /// Gathers the reply to the last line.
 #[tactic(auto, unfolding(crate::specs::Replies::end_text))]
-pub fn gather_end<S: Sink>(out: &mut S, buffer: &mut Buffer) -> Result<(), WriteFault>
-    ensures { Gathers S.written S.faults S.rest out.old out.new buffer.old buffer.new end_text result }
+pub fn gather_end<O: Sink>(out: &mut O, buffer: &mut Buffer) -> Result<(), WriteFault>
+    ensures { Gathers O.written O.faults O.rest out.old out.new buffer.old buffer.new end_text result }
 {
     gather_text(out, buffer, "bye\n")
 }
 
 /// Gathers an answer: how many documents it has, and a run line for each.
 #[tactic(auto, unfolding(crate::specs::Replies::answer_lines))]
-pub fn gather_hits<S: Sink, N: Names>(
-    out: &mut S,
+pub fn gather_hits<S: NamedSource, O: Sink>(
+    out: &mut O,
     buffer: &mut Buffer,
     name: &str,
-    index: &N,
+    source: &S,
     hits: &[Hit],
 ) -> Result<(), WriteFault>
-    requires { All (λ (hit : Hit). hit.doc < length (N.names index.now)) hits.now }
-    ensures { Gathers S.written S.faults S.rest out.old out.new buffer.old buffer.new
-        (answer_lines (N.names index.now) name.now hits.now) result }
+    requires { All (λ (hit : Hit). hit.doc < length (S.index source.now).names) hits.now }
+    ensures { Gathers O.written O.faults O.rest out.old out.new buffer.old buffer.new
+        (answer_lines (S.index source.now).names name.now hits.now) result }
 {
+    source.tells_its_index();
     gather_count(out, buffer, hits.len())?;
-    gather_answer(out, buffer, name, index, hits, TAG, 0)
+    gather_answer(out, buffer, name, source, hits, TAG, 0)
 }
 
 /// Gathers the line before an answer.
-fn gather_count<S: Sink>(out: &mut S, buffer: &mut Buffer, count: usize) -> Result<(), WriteFault>
-    ensures { Gathers S.written S.faults S.rest out.old out.new buffer.old buffer.new
+fn gather_count<O: Sink>(out: &mut O, buffer: &mut Buffer, count: usize) -> Result<(), WriteFault>
+    ensures { Gathers O.written O.faults O.rest out.old out.new buffer.old buffer.new
         (codes "hits " ++ (decimal count ++ codes "\n")) result }
 {
     let mut digits = Digits::new();
@@ -147,8 +149,8 @@ fn gather_count<S: Sink>(out: &mut S, buffer: &mut Buffer, count: usize) -> Resu
 }
 
 /// Gathers a text.
-fn gather_text<S: Sink>(out: &mut S, buffer: &mut Buffer, text: &str) -> Result<(), WriteFault>
-    ensures { Gathers S.written S.faults S.rest out.old out.new buffer.old buffer.new text.now result }
+fn gather_text<O: Sink>(out: &mut O, buffer: &mut Buffer, text: &str) -> Result<(), WriteFault>
+    ensures { Gathers O.written O.faults O.rest out.old out.new buffer.old buffer.new text.now result }
 {
     gather_all(out, buffer, &[text.as_bytes()])
 }

@@ -1,4 +1,4 @@
--- What a session leaves that answers a query of words, as a function of the view of an index file.
+-- What a session leaves that answers a query of words, as a function of an index.
 use Rattle.std.specs.Prelude.{ℕ, List, ◌++◌, codes}
 use Rattle.jass_base.specs.Ciff.{CollectionData}
 use Rattle.ranking_model.specs.Report.{run_lines}
@@ -6,7 +6,6 @@ use Rattle.weights.specs.declared.quantizing.Bits.TheVariants.{Raw}
 use Rattle.weights.specs.declared.weighting.Rule.TheVariants.{Tf}
 use Rattle.impact_segments.specs.Collections.{collection_index}
 use Rattle.index_model.specs.Index.{IndexData}
-use Rattle.index_layout.specs.View.{FileView}
 use Rattle.session_engine.specs.Standing.{answer_over, query_of}
 use Rattle.session_engine.specs.declared.session.Session.{Session}
 use Rattle.jass_words.specs.Words.{texts}
@@ -23,6 +22,6 @@ abbrev pub once_index : CollectionData → IndexData
 once_index c = collection_index Tf Raw c
 
 -- the report line, and the run lines of the answer
-abbrev pub session_text : FileView → Session → List ℕ
-session_text file s =
-    report_text s ++ run_lines file.index.names (query_of s).id (codes "jass") 1 (answer_over file.index s)
+abbrev pub session_text : IndexData → Session → List ℕ
+session_text index s =
+    report_text s ++ run_lines index.names (query_of s).id (codes "jass") 1 (answer_over index s)

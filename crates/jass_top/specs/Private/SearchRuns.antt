@@ -3,7 +3,7 @@ use Rattle.std.specs.Prelude.{ℕ, ◌≡◌, ◌+◌, ◌≤◌, List, map, len
 use Rattle.jass_base.specs.declared.query.Query.{Query}
 use Rattle.ranking_model.specs.Report.{report_line, run_lines, tag_of}
 use Rattle.ranking_model.specs.Search.{QueryData, query_data}
-use Rattle.index_layout.specs.View.{FileView}
+use Rattle.index_model.specs.Index.{IndexData}
 use Rattle.accumulator_pages.specs.Adding.{page_count}
 use Rattle.frame_pool.specs.Pool.{PoolView, spare_of}
 use Rattle.session_engine.specs.Plans.{HasFreeNumber}
@@ -19,13 +19,13 @@ abbrev pub asked_of : List Query → List QueryData
 asked_of queries = map query_data queries
 
 -- the run lines of a session's answer as a part, and its report line
-abbrev pub answer_text : FileView → Session → List ℕ → ℕ → List ℕ
-answer_text file s tag part = run_lines file.index.names (query_of s).id (tag_of tag part) 1 (answer_over file.index s)
+abbrev pub answer_text : IndexData → Session → List ℕ → ℕ → List ℕ
+answer_text index s tag part = run_lines index.names (query_of s).id (tag_of tag part) 1 (answer_over index s)
 
 abbrev pub report_text : Session → List ℕ
 report_text s = report_line (query_of s).id (report_of s) (query_of s).unknown
 
--- a pool can hold a session more over the file, whatever its query
-pub record IsReady (file : FileView) (pool : PoolView) : Type 0 where
+-- a pool can hold a session more over the index, whatever its query
+pub record IsReady (index : IndexData) (pool : PoolView) : Type 0 where
   pub number : HasFreeNumber pool
-  pub frames : page_count (length file.index.names) ≤ spare_of pool
+  pub frames : page_count (length index.names) ≤ spare_of pool

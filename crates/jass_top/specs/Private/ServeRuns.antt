@@ -1,7 +1,7 @@
 -- How lines are served, and why serving stops.
 use Rattle.std.specs.Prelude.{ℕ, ◌≡◌, ◌≤◌, List, None, Result, Ok, Err, IfErr}
 use Rattle.jass_base.specs.Outside.{Rose}
-use Rattle.index_layout.specs.View.{FileView}
+use Rattle.index_model.specs.Index.{IndexData}
 use Rattle.jass_top.specs.Meanings.{Output}
 use Rattle.jass_top.specs.Standing.{IsInput, Leaves, TakesFront}
 use Rattle.jass_top.specs.ServeMeaning.{IsServeOutput, ServesFirst, ServesTaken, ServesPart, ServesFront}
@@ -10,24 +10,24 @@ use Rattle.jass_top.specs.declared.serve_stop.ServeStop.{ServeStop}
 use Rattle.jass_top.specs.declared.serve_stop.ServeStop.TheVariants as stops
 
 -- all lines were answered
-pub record ServesAll (frames : ℕ) (file : FileView) (before after : Outer) : Type 0 where
+pub record ServesAll (frames : ℕ) (index : IndexData) (before after : Outer) : Type 0 where
   pub input : List ℕ
   pub output : Output
   pub had : IsInput before.left input
-  pub exact : IsServeOutput frames file input output
+  pub exact : IsServeOutput frames index input output
   pub left : Leaves None before after output
 
 -- how the lines of an input were served
-abbrev pub Serves : {T : Type 0} → ℕ → FileView → Outer → Outer → Result T ServeStop → Type 0
-Serves frames file before after (Ok x) = ServesAll frames file before after
-Serves frames file before after (Err stops.NoMemory) = ServesFirst frames file before after
-Serves frames file before after (Err stops.ReadFault) = ServesTaken frames file before after
-Serves frames file before after (Err stops.WriteFault) = ServesPart frames file before after
-Serves frames file before after (Err stops.Limit) = ServesFront frames file before after
+abbrev pub Serves : {T : Type 0} → ℕ → IndexData → Outer → Outer → Result T ServeStop → Type 0
+Serves frames index before after (Ok x) = ServesAll frames index before after
+Serves frames index before after (Err stops.NoMemory) = ServesFirst frames index before after
+Serves frames index before after (Err stops.ReadFault) = ServesTaken frames index before after
+Serves frames index before after (Err stops.WriteFault) = ServesPart frames index before after
+Serves frames index before after (Err stops.Limit) = ServesFront frames index before after
 
 -- how they were served on an output
-pub record Served {T : Type 0} (file : FileView) (frames : ℕ) (before after : Outer) (result : Result T ServeStop) : Type 0 where
-  pub serves : Serves frames file before after result
+pub record Served {T : Type 0} (index : IndexData) (frames : ℕ) (before after : Outer) (result : Result T ServeStop) : Type 0 where
+  pub serves : Serves frames index before after result
   pub taken : TakesFront before.left after.left
   pub never_less : before.out_faults ≤ after.out_faults
   pub failed : IfErr result (λ e. e ≡ stops.WriteFault → Rose before.out_faults after.out_faults)

@@ -16,5 +16,5 @@ returns-in-Err g c = λ beside.
 pub returns : goal.returns
 returns g c = λ beside.
     subst (λ (made : IndexData). Runs (asking_meaning c.args.input.now made (once_of c.args.question)) (with_output g.O.Sink c.args.out.now (with_steps c.args.steps.now beside))
-    (with_output g.O.Sink c.ask_file-answered.new.out (with_steps c.ask_file-answered.new.steps beside)) c.ask_file-answered.result)
-    c.in-Ok.ensures.index (c.ask_file-answered.ensures beside)
+    (with_output g.O.Sink c.ask_source-answered.new.out (with_steps c.ask_source-answered.new.steps beside)) c.ask_source-answered.result)
+    c.in-Ok.ensures.index (c.ask_source-answered.ensures beside)

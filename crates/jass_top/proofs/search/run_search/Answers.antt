@@ -10,15 +10,15 @@ use Rattle.jass_top.proofs.search.run_search.Goals as goal
 
 pub returns-in-Ok-clause-runs : goal.returns-in-Ok-clause-runs
 returns-in-Ok-clause-runs g c = λ beside.
-    let file = c.in_ok-file.file in let asked = asked_of c.in_ok-file.found in
-    let output = budgets_output file c.args.asked.k c.args.budgets.now c.args.asked.tag.now asked in
+    let index = c.in_ok-file.file.index in let asked = asked_of c.in_ok-file.found in
+    let output = budgets_output index c.args.asked.k c.args.budgets.now c.args.asked.tag.now asked in
     ran_on_both refl refl refl refl refl c.in-Ok.ensures.out.rest_stays (record {
       inputs = c.in_ok-file.ensures.accepted.input;
       input = [];
       output = output;
       accepted = c.in_ok-file.ensures.accepted.accepted;
       had = λ feeds. cc;
-      exact = exact_for c.a_search_leaves_its_output.ensures.within_budgets file c.args.asked.k c.args.budgets.now c.args.asked.tag.now asked c.in_ok-file.ensures.accepted.input c.in_ok-file.ensures.view c.in_ok-file.ensures.accepted.holds;
+      exact = exact_for c.a_search_leaves_its_output.ensures.within_budgets index c.args.asked.k c.args.budgets.now c.args.asked.tag.now asked c.in_ok-file.ensures.accepted.input c.is_searchable.ensures c.in_ok-file.ensures.accepted.holds;
       left = record {
         content = subst (λ told. Sets told (g.C.Cabinet.told c.write_search.new.files) c.args.run.now output.content) c.in_ok-file.ensures.stays c.in-Ok.ensures.run.content;
         text = c.in-Ok.ensures.out.bytes;
@@ -30,9 +30,9 @@ pub returns-in-Err-NoMemory-clause-runs : goal.returns-in-Err-NoMemory-clause-ru
 returns-in-Err-NoMemory-clause-runs g c = λ beside.
     ran_on_both refl refl refl refl refl c.in-Err-NoMemory.ensures.out.rest_stays (inr (
     part_left c.a_search_leaves_its_output.ensures.within_budgets c.args.index.now c.args.queries.now c.args.run.now c.args.asked.k c.args.budgets.now c.args.asked.tag.now c.args.asked.mode
-    c.in_ok-file.file (asked_of c.in_ok-file.found) (g.C.Cabinet.told c.open_search.new.files)
+    c.in_ok-file.file.index (asked_of c.in_ok-file.found) (g.C.Cabinet.told c.open_search.new.files)
     (with_output g.O.Sink c.args.out.now (with_files g.C.Cabinet c.args.files.now (with_steps c.args.steps.now beside))) (with_output g.O.Sink c.write_search.new.out (with_files g.C.Cabinet c.write_search.new.files (with_steps c.write_search.new.steps beside)))
-    c.in_ok-file.ensures.view c.in_ok-file.ensures.stays c.in_ok-file.ensures.accepted c.in-Err-NoMemory.ensures.run.content c.in-Err-NoMemory.ensures.out.bytes c.in-Err-NoMemory.ensures.steps
+    c.is_searchable.ensures c.in_ok-file.ensures.stays c.in_ok-file.ensures.accepted c.in-Err-NoMemory.ensures.run.content c.in-Err-NoMemory.ensures.out.bytes c.in-Err-NoMemory.ensures.steps
     ))
 
 pub returns-in-Err-Unwritten-Run-clause-runs : goal.returns-in-Err-Unwritten-Run-clause-runs
@@ -43,16 +43,16 @@ returns-in-Err-Unwritten-Run-clause-runs g c = λ beside. ran_on_both refl refl 
         (c.in-Err-Unwritten-Run.ensures.run.failed (c.in-Err-Unwritten-Run.field-0-is ∙ ap Unwritten c.in-Err-Unwritten-Run.field-0-0-is)),
   ),
   part_left c.a_search_leaves_its_output.ensures.within_budgets c.args.index.now c.args.queries.now c.args.run.now c.args.asked.k c.args.budgets.now c.args.asked.tag.now c.args.asked.mode
-      c.in_ok-file.file (asked_of c.in_ok-file.found) (g.C.Cabinet.told c.open_search.new.files)
+      c.in_ok-file.file.index (asked_of c.in_ok-file.found) (g.C.Cabinet.told c.open_search.new.files)
       (with_output g.O.Sink c.args.out.now (with_files g.C.Cabinet c.args.files.now (with_steps c.args.steps.now beside))) (with_output g.O.Sink c.write_search.new.out (with_files g.C.Cabinet c.write_search.new.files (with_steps c.write_search.new.steps beside)))
-      c.in_ok-file.ensures.view c.in_ok-file.ensures.stays c.in_ok-file.ensures.accepted c.in-Err-Unwritten-Run.ensures.run.content c.in-Err-Unwritten-Run.ensures.out.bytes c.in-Err-Unwritten-Run.ensures.steps,
+      c.is_searchable.ensures c.in_ok-file.ensures.stays c.in_ok-file.ensures.accepted c.in-Err-Unwritten-Run.ensures.run.content c.in-Err-Unwritten-Run.ensures.out.bytes c.in-Err-Unwritten-Run.ensures.steps,
 )
 
 pub returns-in-Err-Unwritten-Reports-clause-runs : goal.returns-in-Err-Unwritten-Reports-clause-runs
 returns-in-Err-Unwritten-Reports-clause-runs g c = λ beside. ran_on_both refl refl refl refl refl c.in-Err-Unwritten-Reports.ensures.out.rest_stays (
   inl (refl, refl, c.in-Err-Unwritten-Reports.ensures.out.failed (c.in-Err-Unwritten-Reports.field-0-is ∙ ap Unwritten c.in-Err-Unwritten-Reports.field-0-0-is)),
   part_left c.a_search_leaves_its_output.ensures.within_budgets c.args.index.now c.args.queries.now c.args.run.now c.args.asked.k c.args.budgets.now c.args.asked.tag.now c.args.asked.mode
-      c.in_ok-file.file (asked_of c.in_ok-file.found) (g.C.Cabinet.told c.open_search.new.files)
+      c.in_ok-file.file.index (asked_of c.in_ok-file.found) (g.C.Cabinet.told c.open_search.new.files)
       (with_output g.O.Sink c.args.out.now (with_files g.C.Cabinet c.args.files.now (with_steps c.args.steps.now beside))) (with_output g.O.Sink c.write_search.new.out (with_files g.C.Cabinet c.write_search.new.files (with_steps c.write_search.new.steps beside)))
-      c.in_ok-file.ensures.view c.in_ok-file.ensures.stays c.in_ok-file.ensures.accepted c.in-Err-Unwritten-Reports.ensures.run.content c.in-Err-Unwritten-Reports.ensures.out.bytes c.in-Err-Unwritten-Reports.ensures.steps,
+      c.is_searchable.ensures c.in_ok-file.ensures.stays c.in_ok-file.ensures.accepted c.in-Err-Unwritten-Reports.ensures.run.content c.in-Err-Unwritten-Reports.ensures.out.bytes c.in-Err-Unwritten-Reports.ensures.steps,
 )

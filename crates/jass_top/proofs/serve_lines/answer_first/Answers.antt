@@ -7,51 +7,51 @@ use Rattle.jass_top.proofs.serve_lines.answer_first.Goals as goal
 
 pub returns-in-Ok-On-clause-answers : goal.returns-in-Ok-On-clause-answers
 returns-in-Ok-On-clause-answers g c =
-    let file = c.args.desk.now.file in let state = c.args.desk.now.state in let w = c.args.lines.now in
+    let index = g.S.Source.index c.args.desk.now.source in let state = c.args.desk.now.state in let w = c.args.lines.now in
     let line = c.first_line.result.now in
     record {
-      text = desk_reply file.index state line;
-      scored = desk_steps file.index state line;
-      side = side_ok (told_reply (desk_reply file.index state c.first_line.result.now) c.in-Ok-On.field-0-is c.in-Ok-On.ensures.reply);
+      text = desk_reply index state line;
+      scored = desk_steps index state line;
+      side = side_ok (told_reply (desk_reply index state c.first_line.result.now) c.in-Ok-On.field-0-is c.in-Ok-On.ensures.reply);
       counted = c.answer_line.ensures.steps;
-      goes = subst (λ (n : Waiting). Moves file w n state c.answer_line.new.self.state (desk_reply file.index state line) (desk_steps file.index state line)) (sym c.pass.ensures)
-          (subst (λ (s : DeskState). Moves file w (passed_to c.args.end w) state s (desk_reply file.index state line) (desk_steps file.index state line))
-          (sym (c.in-Ok-On.ensures.after ∙ ap (λ (went : Went). left_where {E = WriteFault} (Ok went) state (desk_after file.index state c.first_line.result.now)) c.in-Ok-On.field-0-is))
-          (line_moves c.a_line_loses_one_byte.ensures c.pending_bytes_wait.ensures.line c.lines_are_passed.ensures.line file w state c.args.end line c.requires c.first_line.ensures (goes_on c.in-Ok-On.field-0 (is_end line) c.in-Ok-On.field-0-is c.in-Ok-On.ensures.end)));
+      goes = subst (λ (n : Waiting). Moves index w n state c.answer_line.new.self.state (desk_reply index state line) (desk_steps index state line)) (sym c.pass.ensures)
+          (subst (λ (s : DeskState). Moves index w (passed_to c.args.end w) state s (desk_reply index state line) (desk_steps index state line))
+          (sym (c.in-Ok-On.ensures.after ∙ ap (λ (went : Went). left_where {E = WriteFault} (Ok went) state (desk_after index state c.first_line.result.now)) c.in-Ok-On.field-0-is))
+          (line_moves c.a_line_loses_one_byte.ensures c.pending_bytes_wait.ensures.line c.lines_are_passed.ensures.line index w state c.args.end line c.requires c.first_line.ensures (goes_on c.in-Ok-On.field-0 (is_end line) c.in-Ok-On.field-0-is c.in-Ok-On.ensures.end)));
     }
 
 pub returns-in-Ok-End-clause-answers : goal.returns-in-Ok-End-clause-answers
 returns-in-Ok-End-clause-answers g c =
-    let file = c.args.desk.now.file in let state = c.args.desk.now.state in let w = c.args.lines.now in
+    let index = g.S.Source.index c.args.desk.now.source in let state = c.args.desk.now.state in let w = c.args.lines.now in
     let line = c.first_line.result.now in
     record {
-      text = desk_reply file.index state line;
-      scored = desk_steps file.index state line;
-      side = side_ok (told_reply (desk_reply file.index state c.first_line.result.now) c.in-Ok-End.field-0-is c.in-Ok-End.ensures.reply);
+      text = desk_reply index state line;
+      scored = desk_steps index state line;
+      side = side_ok (told_reply (desk_reply index state c.first_line.result.now) c.in-Ok-End.field-0-is c.in-Ok-End.ensures.reply);
       counted = c.answer_line.ensures.steps;
-      goes = line_finishes c.a_line_loses_one_byte.ensures c.pending_bytes_wait.ensures.line c.lines_are_passed.ensures.line file w state c.args.end line c.requires c.first_line.ensures (goes_last c.in-Ok-End.field-0 (is_end line) c.in-Ok-End.field-0-is c.in-Ok-End.ensures.end);
+      goes = line_finishes c.a_line_loses_one_byte.ensures c.pending_bytes_wait.ensures.line c.lines_are_passed.ensures.line index w state c.args.end line c.requires c.first_line.ensures (goes_last c.in-Ok-End.field-0 (is_end line) c.in-Ok-End.field-0-is c.in-Ok-End.ensures.end);
     }
 
 pub returns-in-Ok-NoMemory-clause-answers : goal.returns-in-Ok-NoMemory-clause-answers
 returns-in-Ok-NoMemory-clause-answers g c =
-    let file = c.args.desk.now.file in let state = c.args.desk.now.state in let w = c.args.lines.now in
-    let none = opening_steps file state c.first_line.result.now (c.in-Ok-NoMemory.ensures.memory c.in-Ok-NoMemory.field-0-is) in
+    let index = g.S.Source.index c.args.desk.now.source in let state = c.args.desk.now.state in let w = c.args.lines.now in
+    let none = opening_steps index state c.first_line.result.now (c.in-Ok-NoMemory.ensures.memory c.in-Ok-NoMemory.field-0-is) in
     record {
       text = [];
       scored = 0;
-      side = side_ok (told_reply (desk_reply file.index state c.first_line.result.now) c.in-Ok-NoMemory.field-0-is c.in-Ok-NoMemory.ensures.reply);
+      side = side_ok (told_reply (desk_reply index state c.first_line.result.now) c.in-Ok-NoMemory.field-0-is c.in-Ok-NoMemory.ensures.reply);
       counted = omega (arith, c.answer_line.ensures.steps, none);
-      goes = subst (λ (s : DeskState). Moves file w w state s [] 0) (sym (c.in-Ok-NoMemory.ensures.after ∙ ap (λ (went : Went). left_where {E = WriteFault} (Ok went) state (desk_after file.index state c.first_line.result.now)) c.in-Ok-NoMemory.field-0-is)) (stays file w state);
+      goes = subst (λ (s : DeskState). Moves index w w state s [] 0) (sym (c.in-Ok-NoMemory.ensures.after ∙ ap (λ (went : Went). left_where {E = WriteFault} (Ok went) state (desk_after index state c.first_line.result.now)) c.in-Ok-NoMemory.field-0-is)) (stays index w state);
     }
 
 pub returns-in-Err-clause-answers : goal.returns-in-Err-clause-answers
 returns-in-Err-clause-answers g c =
-    let file = c.args.desk.now.file in let state = c.args.desk.now.state in let w = c.args.lines.now in
+    let index = g.S.Source.index c.args.desk.now.source in let state = c.args.desk.now.state in let w = c.args.lines.now in
     let line = c.first_line.result.now in
     record {
-      text = desk_reply file.index state line;
-      scored = desk_steps file.index state line;
+      text = desk_reply index state line;
+      scored = desk_steps index state line;
       side = side_err c.in-Err.ensures.reply;
       counted = c.answer_line.ensures.steps;
-      goes = line_cuts c.a_line_loses_one_byte.ensures c.pending_bytes_wait.ensures.line c.lines_are_passed.ensures.line file w state c.args.end line c.requires c.first_line.ensures;
+      goes = line_cuts c.a_line_loses_one_byte.ensures c.pending_bytes_wait.ensures.line c.lines_are_passed.ensures.line index w state c.args.end line c.requires c.first_line.ensures;
     }

@@ -5,8 +5,8 @@ use Rattle.jass_top.proofs.serve_lines.answer_waiting.Given as goal
 
 abbrev pub invariant-lines : goal.invariant-lines
 invariant-lines g l = record {
-  file : l.desk.file ≡ l.fn.desk.file;
-  answers : AnswersLines g.O.Sink.written g.O.Sink.faults g.O.Sink.rest l.fn.out l.out l.fn.buffer l.buffer l.fn.steps l.steps l.fn.desk.file l.fn.lines l.lines l.fn.desk.state l.desk.state (Ok wents.On);
+  source : l.desk.source ≡ l.fn.desk.source;
+  answers : AnswersLines g.O.Sink.written g.O.Sink.faults g.O.Sink.rest l.fn.out l.out l.fn.buffer l.buffer l.fn.steps l.steps (g.S.Source.index l.fn.desk.source) l.fn.lines l.lines l.fn.desk.state l.desk.state (Ok wents.On);
 }
 
 abbrev pub decreases-lines : goal.decreases-lines

@@ -5,8 +5,8 @@ use Rattle.jass_top.proofs.trial_queries.try_grant.Goals as goal
 
 pub with-requires-clause-few : goal.with-requires-clause-few
 with-requires-clause-few g c =
-    let file = c.args.index.now in let s = c.grant-report.new.self in
-    let is = ap length (c.answer.ensures file.index c.grant-report.new.pool c.grant-report.ensures.stands) in
-    let few = top_few (prefix_of s) (plan_over file.index s) (k_of s) in
+    let index = g.S.Source.index c.args.source.now in let s = c.grant-report.new.self in
+    let is = ap length (c.answer.ensures index c.grant-report.new.pool c.grant-report.ensures.stands) in
+    let few = top_few (prefix_of s) (plan_over index s) (k_of s) in
     let ten = c.grant-report.ensures.same.k ∙ c.requires.hits in
     omega (arith, is, few, ten)

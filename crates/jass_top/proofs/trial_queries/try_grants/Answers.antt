@@ -5,7 +5,7 @@ use Rattle.jass_top.proofs.trial_queries.try_grants.Goals as goal
 
 pub returns-clause-sums : goal.returns-clause-sums
 returns-clause-sums g c =
-    let file = c.args.index.now in let s = c.args.session.now in let one = c.try_grant-first.ensures in
+    let index = g.S.Source.index c.args.source.now in let s = c.args.session.now in let one = c.try_grant-first.ensures in
     let two = c.try_grant-second.ensures in let three = c.try_grant-last.ensures in let s1 = c.try_grant-first.new.session in
     let s2 = c.try_grant-second.new.session in let s3 = c.try_grant-last.new.session in let p1 = c.try_grant-first.new.pool in
     let p2 = c.try_grant-second.new.pool in let p3 = c.try_grant-last.new.pool in
@@ -18,9 +18,9 @@ returns-clause-sums g c =
     let k2 = two.same.k ∙ k1 in
     let k3 = three.same.k ∙ k2 in
     (λ i. record {
-      first = (one.sum ∙ (λ j. with_answer c.args.sums.first (report_is file s s1 p1 1 one.stands one.same.query k1 g1 j) (hits_are file s s1 p1 1 one.stands one.same.query k1 g1 j))) i;
-      second = (two.sum ∙ (λ j. with_answer c.args.sums.second (report_is file s s2 p2 2 two.stands q2 k2 g2 j) (hits_are file s s2 p2 2 two.stands q2 k2 g2 j))) i;
-      last = (three.sum ∙ (λ j. with_answer c.args.sums.last (report_is file s s3 p3 3 three.stands q3 k3 g3 j) (hits_are file s s3 p3 3 three.stands q3 k3 g3 j))) i;
+      first = (one.sum ∙ (λ j. with_answer c.args.sums.first (report_is index s s1 p1 1 one.stands one.same.query k1 g1 j) (hits_are index s s1 p1 1 one.stands one.same.query k1 g1 j))) i;
+      second = (two.sum ∙ (λ j. with_answer c.args.sums.second (report_is index s s2 p2 2 two.stands q2 k2 g2 j) (hits_are index s s2 p2 2 two.stands q2 k2 g2 j))) i;
+      last = (three.sum ∙ (λ j. with_answer c.args.sums.last (report_is index s s3 p3 3 three.stands q3 k3 g3 j) (hits_are index s s3 p3 3 three.stands q3 k3 g3 j))) i;
     })
 
 pub returns-clause-small : goal.returns-clause-small

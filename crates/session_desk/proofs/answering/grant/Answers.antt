@@ -8,5 +8,5 @@ use Rattle.session_desk.proofs.answering.grant.Goals as goal
 
 pub returns-in-Some-clause-reply : goal.returns-in-Some-clause-reply
 returns-in-Some-clause-reply g c =
-    subst (λ (text : List ℕ). Gathers {T = Unit {0}} {E = WriteFault} g.S.Sink.written g.S.Sink.faults g.S.Sink.rest c.args.out.now c.gather_report.new.out c.args.buffer.now c.gather_report.new.buffer text c.gather_report.result)
-    (reply_told c.args.index.now.index c.args.name.now (state_of c.args.table.now) (granted_more c.args.budget) (λ session. refl) c.in-Some.told c.in-Some.ensures.told) c.gather_report.ensures
+    subst (λ (text : List ℕ). Gathers {T = Unit {0}} {E = WriteFault} g.O.Sink.written g.O.Sink.faults g.O.Sink.rest c.args.out.now c.gather_report.new.out c.args.buffer.now c.gather_report.new.buffer text c.gather_report.result)
+    (reply_told (g.S.Source.index c.args.source.now) c.args.name.now (state_of c.args.table.now) (granted_more c.args.budget) (λ session. refl) c.in-Some.told c.in-Some.ensures.told) c.gather_report.ensures

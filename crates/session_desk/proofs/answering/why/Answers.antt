@@ -7,5 +7,5 @@ use Rattle.session_desk.proofs.answering.why.Goals as goal
 
 pub returns-in-Some : goal.returns-in-Some
 returns-in-Some g c index stands =
-    subst (λ (text : List ℕ). Gathers {T = Unit {0}} {E = WriteFault} g.S.Sink.written g.S.Sink.faults g.S.Sink.rest c.args.out.now c.gather_report.new.out c.args.buffer.now c.gather_report.new.buffer text c.gather_report.result)
+    subst (λ (text : List ℕ). Gathers {T = Unit {0}} {E = WriteFault} g.O.Sink.written g.O.Sink.faults g.O.Sink.rest c.args.out.now c.gather_report.new.out c.args.buffer.now c.gather_report.new.buffer text c.gather_report.result)
     (reply_told index c.args.name.now (state_of c.args.table.now) (λ session. session) (λ session. refl) c.in-Some.told (c.in-Some.ensures index stands)) c.gather_report.ensures

@@ -12,11 +12,11 @@ use Rattle.session_desk.proofs.Seating.{Stands, all_stand}
 use Rattle.session_desk.proofs.table.Table.add.Goals as goal
 
 pub open-requires-clause-chain : goal.open-requires-clause-chain
-open-requires-clause-chain c = number_free c.args.index.now.index c.args.self.now.pool c.args.self.now.sessions.items c.requires.stands.sessions c.requires.room
+open-requires-clause-chain g c = number_free (g.S.Source.index c.args.source.now) c.args.self.now.pool c.args.self.now.sessions.items c.requires.stands.sessions c.requires.room
 
 pub returns-in-Ok-clause-stands : goal.returns-in-Ok-clause-stands
-returns-in-Ok-clause-stands c =
-    let index = c.args.index.now.index in let old = c.args.self.now.pool in let items = c.args.self.now.sessions.items in
+returns-in-Ok-clause-stands g c =
+    let index = (g.S.Source.index c.args.source.now) in let old = c.args.self.now.pool in let items = c.args.self.now.sessions.items in
     let s = c.in-Ok.session in let opened = c.in-Ok.ensures in
     let same : s.query ≡ c.args.query = opened.query in
     let used = all_weaker (Stands index old) (λ (t : Session). IsInUse old (chain_of t)) (λ t stands. c.a_standing_session_has_its_chain.ensures.in_use t index old stands) items c.requires.stands.sessions.each in
@@ -30,8 +30,8 @@ returns-in-Ok-clause-stands c =
     }
 
 pub returns-in-Ok-clause-opens : goal.returns-in-Ok-clause-opens
-returns-in-Ok-clause-opens c =
-    let index = c.args.index.now.index in let old = c.args.self.now.pool in let items = c.args.self.now.sessions.items in
+returns-in-Ok-clause-opens g c =
+    let index = (g.S.Source.index c.args.source.now) in let old = c.args.self.now.pool in let items = c.args.self.now.sessions.items in
     let s = c.in-Ok.session in let opened = c.in-Ok.ensures in
     let before = spare_seen index old items c.requires.stands.sessions ∙ sym c.spare-before.ensures.spare in
     let paid : c.spare.result + need_of index c.args.query.terms ≡ c.spare-before.result = omega (arith, opened.spare, c.spare.ensures.spare, c.spare-before.ensures.spare) in

@@ -7,24 +7,24 @@ use Rattle.session_desk.proofs.Showing.{found_nowhere, stays_without}
 use Rattle.session_desk.proofs.table.Table.close.Goals as goal
 
 pub returns-in-Some-clause-stands : goal.returns-in-Some-clause-stands
-returns-in-Some-clause-stands c =
+returns-in-Some-clause-stands c index stood =
     let items = c.args.self.now.sessions.items in let here = c.remove-session.result in let pool = c.args.self.now.pool in
-    let stands = stands_at items c.args.name.now c.in-Some.place c.in-Some.ensures c.args.index.now.index pool here c.remove-session.ensures.value c.requires.stands.sessions in
+    let stands = stands_at items c.args.name.now c.in-Some.place c.in-Some.ensures index pool here c.remove-session.ensures.value stood.sessions in
     let chain = c.a_standing_session_has_its_chain.ensures in
     record {
-      sessions = subst (SessionsStand c.args.index.now.index c.close.new.pool) (sym c.remove-session.ensures.items)
-          (gone_stand items c.args.name.now c.in-Some.place c.in-Some.ensures c.calls_on_other_chains_leave_sessions.ensures.all c.args.index.now.index pool c.close.new.pool here c.remove-session.ensures.value c.requires.stands.sessions
-          (chain.in_use here c.args.index.now.index pool stands) (chain.promise here c.args.index.now.index pool stands) c.close.ensures.frames c.close.ensures.chains c.close.ensures.others c.close.ensures.spare);
-      room = omega (arith, c.remove-session.ensures.capacity, c.requires.stands.room);
+      sessions = subst (SessionsStand index c.close.new.pool) (sym c.remove-session.ensures.items)
+          (gone_stand items c.args.name.now c.in-Some.place c.in-Some.ensures c.calls_on_other_chains_leave_sessions.ensures.all index pool c.close.new.pool here c.remove-session.ensures.value stood.sessions
+          (chain.in_use here index pool stands) (chain.promise here index pool stands) c.close.ensures.frames c.close.ensures.chains c.close.ensures.others c.close.ensures.spare);
+      room = omega (arith, c.remove-session.ensures.capacity, stood.room);
     }
 
 pub returns-in-Some-clause-open : goal.returns-in-Some-clause-open
 returns-in-Some-clause-open c =
-    sym (ap is_some (found_at c.args.self.now.sessions.items c.args.name.now c.in-Some.place c.in-Some.ensures c.remove-session.result c.remove-session.ensures.value c.requires.stands.sessions.differ))
+    sym (ap is_some (found_at c.args.self.now.sessions.items c.args.name.now c.in-Some.place c.in-Some.ensures c.remove-session.result c.remove-session.ensures.value c.requires.stands.1.sessions.differ))
 
 pub returns-in-Some-clause-after : goal.returns-in-Some-clause-after
 returns-in-Some-clause-after c = state_shown _ _ _ _
-    (ap sessions_data c.remove-session.ensures.items ∙ gone_shows c.args.self.now.sessions.items c.args.name.now c.in-Some.place c.in-Some.ensures c.requires.stands.sessions.differ)
+    (ap sessions_data c.remove-session.ensures.items ∙ gone_shows c.args.self.now.sessions.items c.args.name.now c.in-Some.place c.in-Some.ensures c.requires.stands.1.sessions.differ)
     (ap length c.close.ensures.frames)
 
 pub returns-in-None-clause-open : goal.returns-in-None-clause-open

@@ -11,7 +11,7 @@ use Rattle.session_desk.proofs.table.Table.grant.Goals as goal
 
 pub returns-in_err-place-clause-told : goal.returns-in_err-place-clause-told
 returns-in_err-place-clause-told g c = c.from_residual.ensures
-    ∙ ap (option_map (λ (session : OpenSession). told_of c.args.index.now.index (granted_more c.args.budget session))) (sym (found_nowhere c.args.name.now c.args.self.now.sessions.items c.in_err-place.ensures))
+    ∙ ap (option_map (λ (session : OpenSession). told_of (g.S.Source.index c.args.source.now) (granted_more c.args.budget session))) (sym (found_nowhere c.args.name.now c.args.self.now.sessions.items c.in_err-place.ensures))
 
 pub returns-in_err-place-clause-after : goal.returns-in_err-place-clause-after
 returns-in_err-place-clause-after g c =
@@ -19,18 +19,18 @@ returns-in_err-place-clause-after g c =
 
 pub returns-in_err-place-clause-steps : goal.returns-in_err-place-clause-steps
 returns-in_err-place-clause-steps g c =
-    omega (arith, ap (λ (o : Option OpenSession). option_map_or (newly_scored c.args.index.now.index c.args.budget) o 0) (found_nowhere c.args.name.now c.args.self.now.sessions.items c.in_err-place.ensures))
+    omega (arith, ap (λ (o : Option OpenSession). option_map_or (newly_scored (g.S.Source.index c.args.source.now) c.args.budget) o 0) (found_nowhere c.args.name.now c.args.self.now.sessions.items c.in_err-place.ensures))
 
 pub returns-clause-stands : goal.returns-clause-stands
 returns-clause-stands g c = record {
-  sessions = changed_stand c.args.self.now.sessions.items c.args.name.now c.in_ok-place.place c.in_ok-place.ensures c.calls_on_other_chains_leave_sessions.ensures.all c.args.index.now.index c.args.self.now.pool c.grant-report.new.pool
+  sessions = changed_stand c.args.self.now.sessions.items c.args.name.now c.in_ok-place.place c.in_ok-place.ensures c.calls_on_other_chains_leave_sessions.ensures.all (g.S.Source.index c.args.source.now) c.args.self.now.pool c.grant-report.new.pool
       c.index_mut-session.result.now c.grant-report.new.self c.index_mut-session.ensures.value c.requires.stands.sessions c.grant-report.ensures.leaves c.grant-report.ensures.same c.grant-report.ensures.stands;
   room = c.requires.stands.room;
 }
 
 pub returns-clause-told : goal.returns-clause-told
 returns-clause-told g c =
-    let here = c.index_mut-session.result.now in let there = c.grant-report.new.self in let index = c.args.index.now.index in
+    let here = c.index_mut-session.result.now in let there = c.grant-report.new.self in let index = (g.S.Source.index c.args.source.now) in
     let granted : session_data there ≡ granted_more c.args.budget (session_data here) = session_granted here there c.args.budget c.grant-report.ensures.same c.grant-report.ensures.granted in
     let found = found_at c.args.self.now.sessions.items c.args.name.now c.in_ok-place.place c.in_ok-place.ensures here c.index_mut-session.ensures.value c.requires.stands.sessions.differ in
     let told = told_shown index (session_data there) c.grant-report.result c.query.result.now.unknown
@@ -47,7 +47,7 @@ returns-clause-after g c =
 
 pub returns-clause-steps : goal.returns-clause-steps
 returns-clause-steps g c =
-    let here = c.index_mut-session.result.now in let there = c.grant-report.new.self in let index = c.args.index.now.index in
+    let here = c.index_mut-session.result.now in let there = c.grant-report.new.self in let index = (g.S.Source.index c.args.source.now) in
     let items = c.args.self.now.sessions.items in
     let granted : session_data there ≡ granted_more c.args.budget (session_data here) = session_granted here there c.args.budget c.grant-report.ensures.same c.grant-report.ensures.granted in
     let found = found_at items c.args.name.now c.in_ok-place.place c.in_ok-place.ensures here c.index_mut-session.ensures.value c.requires.stands.sessions.differ in
