@@ -13,3 +13,5 @@ pub mod Named
 pub mod Steps
 pub mod Refuting
 pub mod Deciding
+pub mod Selected
+pub mod Bounds

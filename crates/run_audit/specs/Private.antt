@@ -3,3 +3,4 @@ pub mod Places
 pub mod Grading
 pub mod Reading
 pub mod Texts
+pub mod Working

@@ -1,23 +1,18 @@
 //! Scores as plain sums over an array by document.
 
-ghost use Rattle.std.specs.Prelude.{ℕ, ◌≡◌, ◌+◌, ◌<◌, ◌≤◌, ◌^◌, length, slice_index, IfOk};
+ghost use Rattle.std.specs.Prelude.{ℕ, ◌≡◌, ◌+◌, ◌<◌, ◌≤◌, ◌^◌, length, slice_index};
 ghost use Rattle.std.specs.List.{AllByRecursion};
 ghost use Rattle.ranking_model.specs.Limits.{IsSmall};
 ghost use Rattle.ranking_model.specs.Scores.{gain_of, scores_after};
 
-use jass_base::NoMemory;
 use ranking_model::{PlanSegment, QueryPlan};
-use std::alloc::Global;
 
-/// The scores of a plan's documents before anything is scored.
-pub fn no_scores(alloc: Global, plan: &QueryPlan) -> Result<Vec<u32>, NoMemory>
-    ensures scores { IfOk result (λ scores. scores.items ≡ scores_after 0 plan.now) }
-    ensures few { IfOk result (λ _. plan.now.docs < 2 ^ 32) }
+/// Makes the scores those of a plan's documents before anything is scored.
+pub fn clear_scores(scores: &mut [u32], plan: &QueryPlan)
+    requires { length scores.old ≡ plan.now.docs }
+    ensures { scores.new ≡ scores_after 0 plan.now }
 {
-    match vec![in alloc; 0u32; plan.docs as usize] {
-        Ok(scores) => Ok(scores),
-        Err(_) => Err(NoMemory),
-    }
+    scores.fill(0);
 }
 
 /// Adds the segments of a plan from one on up to another to the scores of their documents.

@@ -10,6 +10,7 @@ ghost use Rattle.run_audit.specs.Verdicts.{IsVerdict, line_feeds};
 ghost use Rattle.run_audit.specs.Private.Places.{Advances, Agrees, AreWithin};
 ghost use Rattle.run_audit.specs.Private.Reading.{AreKnown};
 ghost use Rattle.run_audit.specs.Private.Texts.{queries_reports, queries_rows, query_reports, query_rows_for};
+ghost use Rattle.run_audit.specs.Private.Working.{IsRoomFor};
 
 use crate::budgets::check_budgets;
 use crate::given::{Given, Places};
@@ -17,6 +18,7 @@ use crate::place::Place;
 use crate::reading::read_plan;
 use crate::search::Search;
 use crate::verdict::Verdict;
+use crate::workspace::Workspace;
 use index_file::IndexFile;
 use jass_base::{NoMemory, Query, Steps};
 use ranking_model::laws::a_plan_has_the_segments_of_its_postings;
@@ -48,7 +50,17 @@ pub fn check_answers<L: Ledger>(
         run: Place::start(),
         reports: Place::start(),
     };
-    check_queries(alloc, index, &given, queries, search, &mut places, steps)?;
+    let mut work = Workspace::new(alloc, index.docs())?;
+    check_queries(
+        alloc,
+        index,
+        &given,
+        queries,
+        search,
+        &mut places,
+        &mut work,
+        steps,
+    )?;
     Ok(verdict_of(&given, places))
 }
 
@@ -60,11 +72,14 @@ fn check_queries<L: Ledger>(
     queries: &[Query],
     search: &Search<'_>,
     places: &mut Places,
+    work: &mut Workspace,
     steps: &mut Steps<L>,
 ) -> Result<(), NoMemory>
     requires known { AllByRecursion (λ (query : Query). AreKnown index.now query.terms) queries.now }
     requires within { AreWithin given.now places.old }
+    requires room { IsRoomFor (length index.now.index.names) work.old }
     ensures within { AreWithin given.now places.new }
+    ensures room { IsRoomFor (length index.now.index.names) work.new }
     ensures run { OnOk result (Advances given.now.run.now places.old.run places.new.run
         (queries_rows index.now.index.names (numbered_flat index.now.index) search.now.k search.now.budgets.now
         search.now.tag.now (queries_data queries.now))) }
@@ -75,7 +90,7 @@ fn check_queries<L: Ledger>(
         (queries_postings (numbered_flat index.now.index) (queries_data queries.now)) result }
 {
     for query in queries {
-        check_query(alloc, index, given, query, search, places, steps)?;
+        check_query(alloc, index, given, query, search, places, work, steps)?;
     }
     Ok(())
 }
@@ -88,11 +103,14 @@ fn check_query<L: Ledger>(
     query: &Query,
     search: &Search<'_>,
     places: &mut Places,
+    work: &mut Workspace,
     steps: &mut Steps<L>,
 ) -> Result<(), NoMemory>
     requires known { AreKnown index.now query.now.terms }
     requires within { AreWithin given.now places.old }
+    requires room { IsRoomFor (length index.now.index.names) work.old }
     ensures within { AreWithin given.now places.new }
+    ensures room { IsRoomFor (length index.now.index.names) work.new }
     ensures run { OnOk result (Advances given.now.run.now places.old.run places.new.run
         (query_rows_for index.now.index.names (numbered_flat index.now.index) search.now.k search.now.budgets.now
         search.now.tag.now (query_data query.now))) }
@@ -104,7 +122,7 @@ fn check_query<L: Ledger>(
 {
     a_plan_has_the_segments_of_its_postings();
     let plan = read_plan(alloc, index, query.terms.as_slice(), steps)?;
-    check_budgets(alloc, index, given, query, &plan, search, places)
+    check_budgets(alloc, index, given, query, &plan, search, places, work)
 }
 
 /// The verdict on what is given, where all that a search leaves was compared.

@@ -6,13 +6,15 @@ ghost use Rattle.ranking_model.specs.Search.{prefixes_granted, query_data};
 ghost use Rattle.run_audit.specs.Rows.{hit_rows};
 ghost use Rattle.run_audit.specs.Private.Places.{Advances, AreWithin};
 ghost use Rattle.run_audit.specs.Private.Texts.{first_part_of, reports_at, rows_at};
+ghost use Rattle.run_audit.specs.Private.Working.{IsRoomFor};
 
-use crate::adding::{add_segments, no_scores};
+use crate::adding::{add_segments, clear_scores};
 use crate::answer::{Answer, answer_of};
 use crate::given::{Given, Places};
 use crate::reports::{check_report, joined};
 use crate::rows::check_hits;
 use crate::search::Search;
+use crate::workspace::Workspace;
 use index_file::IndexFile;
 use itoa::Buffer as Digits;
 use jass_base::{Budget, NoMemory, Query, Row};
@@ -30,11 +32,14 @@ pub fn check_budgets(
     plan: &QueryPlan,
     search: &Search<'_>,
     places: &mut Places,
+    work: &mut Workspace,
 ) -> Result<(), NoMemory>
     requires small { IsSmall plan.now }
     requires docs { plan.now.docs ≡ length index.now.index.names }
     requires within { AreWithin given.now places.old }
+    requires room { IsRoomFor (length index.now.index.names) work.old }
     ensures within { AreWithin given.now places.new }
+    ensures room { IsRoomFor (length index.now.index.names) work.new }
     ensures run { OnOk result (Advances given.now.run.now places.old.run places.new.run
         (rows_at index.now.index.names plan.now search.now.k search.now.tag.now (query_data query.now)
         (first_part_of search.now.budgets.now) (prefixes_granted search.now.budgets.now plan.now))) }
@@ -45,16 +50,16 @@ pub fn check_budgets(
     the_prefix_is_the_longest();
     each_budget_has_its_prefix();
     one_budget_more_is_granted();
-    let mut scores = no_scores(alloc, plan)?;
+    clear_scores(&mut work.scores, plan);
     let mut scored = 0;
     let mut granted = 0;
     let mut part = first_part(search.budgets);
     for budget in search.budgets {
         granted = granted_with(granted, *budget);
         let count = prefix_within(granted, plan.segments.as_slice());
-        add_segments(&mut scores, plan, scored, count);
+        add_segments(&mut work.scores, plan, scored, count);
         scored = count;
-        let answer = answer_of(alloc, plan, count, &scores, search.k)?;
+        let answer = answer_of(alloc, plan, count, &work.scores, &mut work.hits, search.k)?;
         let tag = whole_tag(alloc, search.tag, part)?;
         check_answer(alloc, index, given, query, tag.as_slice(), &answer, places)?;
         part += 1;

@@ -6,6 +6,7 @@
 mod adding;
 mod answer;
 mod audit;
+mod bound;
 mod budgets;
 mod given;
 mod grading;
@@ -16,7 +17,9 @@ mod reports;
 mod row;
 mod rows;
 mod search;
+mod standing;
 mod verdict;
+mod workspace;
 
 pub use audit::check_answers;
 pub use search::{MOST_BUDGETS, Search};

@@ -20,6 +20,7 @@ loop-query-preserved g c =
       steps = omega (arith, counted, c.in_ok-check_query.ensures.steps, c.loop-query.invariant.steps);
       later = omega (arith, c.in_ok-check_query.ensures.steps, c.loop-query.invariant.later);
       within = c.in_ok-check_query.ensures.within;
+      room = c.in_ok-check_query.ensures.room;
       run = to_more c.args.given.now.run.now c.args.places.now.run c.loop-query.places.run c.check_query.new.places.run _ _ _ _
           (ap (queries_rows index.names (numbered_flat index) search.k search.budgets.now search.tag.now) turn) c.loop-query.invariant.run c.in_ok-check_query.ensures.run;
       reports = to_more c.args.given.now.reports.now c.args.places.now.reports c.loop-query.places.reports c.check_query.new.places.reports _ _ _ _

@@ -1,6 +1,7 @@
 use Rattle.shared_lemmas.proofs.Common.{◌≡◌, ◌+◌, ◌≤◌, ℕ, List, take, length, get_or, sym, ap, subst, ◌∙◌, arith, slice_get-get_or, with_items_is}
 use Rattle.jass_base.specs.declared.answer.Budget.{Budget}
 use Rattle.jass_base.specs.declared.answer.Budget.TheVariants.{Postings}
+use Rattle.jass_base.specs.declared.answer.Hit.{Hit}
 use Rattle.ranking_model.specs.declared.plan_segment.PlanSegment.{PlanSegment}
 use Rattle.ranking_model.specs.Plan.{granted_sum, granted_with, prefix_within, size_of_first}
 use Rattle.ranking_model.specs.Report.{report_line}
@@ -26,16 +27,23 @@ loop-budget-preserved c =
     ∙ sym (c.one_budget_more_is_granted.ensures budgets i (get_or budgets i (Postings 0)) (slice_get-get_or budgets i (Postings 0) c.loop-budget-test.true)) in
     let prefix : count ≡ prefix_within c.granted_with-granted.result plan.segments = c.prefix_within-count.ensures.prefix ∙ ap (prefix_within c.granted_with-granted.result) c.as_slice.ensures in
     let is : count ≡ prefix_granted (i + 1) budgets plan = prefix ∙ ap (λ n. prefix_within n plan.segments) granted in
-    let before : length c.deref_mut.result.now ≡ c.loop-budget.scores.len = c.deref_mut.ensures.len in
-    let size : length c.add_segments.new.scores ≡ c.loop-budget.scores.len
+    let before : length c.deref_mut-in-loop-budget.result.now ≡ c.loop-budget.work.scores.len = c.deref_mut-in-loop-budget.ensures.len in
+    let size : length c.add_segments.new.scores ≡ c.loop-budget.work.scores.len
     = ap (λ (xs : List ℕ). length xs) c.add_segments.ensures ∙ scores_all count plan
-    ∙ sym (ap (λ (xs : List ℕ). length xs) (c.deref_mut.ensures.value ∙ c.loop-budget.invariant.scores) ∙ scores_all c.loop-budget.scored plan) ∙ before in
+    ∙ sym (ap (λ (xs : List ℕ). length xs) (c.deref_mut-in-loop-budget.ensures.value ∙ c.loop-budget.invariant.scores) ∙ scores_all c.loop-budget.scored plan) ∙ before in
+    let scored = with_items_is c.loop-budget.work.scores c.add_segments.new.scores size ∙ c.add_segments.ensures in
     record {
       part = omega (arith, c.loop-budget.invariant.part);
       granted = granted;
       there = omega (arith, c.prefix_within-count.ensures.within, ap (λ (segments : List PlanSegment). length segments) c.as_slice.ensures);
       paid = subst (λ (n : ℕ). size_of_first n plan.segments ≤ c.granted_with-granted.result) (sym prefix) (c.the_prefix_is_the_longest.ensures.fits c.granted_with-granted.result plan.segments);
-      scores = with_items_is c.loop-budget.scores c.add_segments.new.scores size ∙ c.add_segments.ensures;
+      scores = scored;
+      room = record {
+        few = c.loop-budget.invariant.room.few;
+        scores = ap (λ (xs : List ℕ). length xs) scored ∙ scores_all count plan ∙ c.requires.docs;
+        hits = ap (λ (hits : List Hit). length hits) (with_items_is c.loop-budget.work.hits c.answer_of.new.scratch (c.answer_of.ensures.room ∙ c.deref_mut-in-loop-budget-2.ensures.len))
+            ∙ c.answer_of.ensures.room ∙ ap (λ (hits : List Hit). length hits) c.deref_mut-in-loop-budget-2.ensures.value ∙ c.loop-budget.invariant.room.hits;
+      };
       within = c.in_ok-check_answer.ensures.within;
       run = to_more c.args.given.now.run.now c.args.places.now.run c.loop-budget.places.run c.check_answer.new.places.run _ _ _ _
           (rows_turn c.each_budget_has_its_prefix.ensures.from plan c.args.search.now.k query budgets i c.loop-budget-test.true count is names c.args.search.now.tag.now c.loop-budget.part)
