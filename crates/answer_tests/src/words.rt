@@ -31,7 +31,7 @@ fn bad_word(rt: &impl Abort, alloc: Global, line: &str) -> u32 {
 }
 
 /// Lines of words, each with the number of its first bad word.
-const LINES: [(&str, u32); 55] = [
+const LINES: [(&str, u32); 58] = [
     ("once b 3 all a", 0),
     ("once b 100000 18446744073709551615 a b", 0),
     ("rewrite a b", 0),
@@ -68,6 +68,9 @@ const LINES: [(&str, u32); 55] = [
     ("search i q r k=100000 tag=a=b mode=folded budget=all,0", 0),
     ("search i q r budget=2,all k=2", 0),
     ("search i q r k=0", 5),
+    ("exhaust i q r tag=a k=2 mode=folded", 0),
+    ("exhaust i q q", 4),
+    ("exhaust i q r k=2 budget=all", 6),
     ("search i q r budget=2,,3", 5),
     (
         "search i q r budget=1,2,3,4,5,6,7,8,9,10,11,12,13,14,15,16",

@@ -20,7 +20,7 @@ use Rattle.jass_top.specs.Judging.{Accepted, Judged, behind, judge_content}
 use Rattle.jass_top.specs.Meanings.{Output}
 use Rattle.jass_top.specs.QueryJudging.{LineQuery, judge_queries, plain_query, with_lines, without_lines}
 use Rattle.jass_top.specs.SearchMeaning.{AreSearchReports, IsSearchOutput, IsSearchReport, Search, SearchInputs, judge_search, plan_over_index, search_within}
-use Rattle.jass_top.proofs.Behind.{behind_found}
+use Rattle.jass_top.proofs.Asked.{HaveColumns, HaveTerms, IndexesAreJudged, QueriesAreJudged, accepted_one, can_be_searched}
 use Rattle.jass_top.proofs.Judged.{content_only}
 use Rattle.jass_top.proofs.JudgedAudit as judged
 use Rattle.jass_top.proofs.OneOutput.{OneVerdict}
@@ -37,28 +37,6 @@ tag_column tag is = record {
   plain = λ i d inside. (let seen = is.visible i d inside in (λ e. omega (arith, seen.0, e)));
 }
 
-all_plain : (P : QueryData → Type 0) (asked : List reader.QueryData) → AllByRecursion (λ query. P (plain_query query)) asked → AllByRecursion P (map plain_query asked)
-all_plain P [] each = tt
-all_plain P (query ∷ asked) each = (each.0, all_plain P asked each.1)
-
--- the laws of index files and of query files
-abbrev pub IndexesAreJudged : Type 0
-IndexesAreJudged = (name : List ℕ) (files : Files) (v : FileView) → judge_index name (Some files) ≡ Accepted v → (content : List ℕ) × (get files name ≡ Some content) × (All (λ byte. byte < 256) content → (content ≡ file_bytes v) × IsFileView v)
-
-abbrev pub QueriesAreJudged : Type 0
-QueriesAreJudged = (name : List ℕ) (mode : Mode) (terms : List (List ℕ)) (content : List ℕ) (queries : List LineQuery) → judge_queries name mode terms content ≡ Accepted queries
-    → (asked : List reader.QueryData) × reader.IsQueryFile content mode terms asked × (queries ≡ with_lines content (map plain_query asked)) × (without_lines queries ≡ map plain_query asked)
-
-abbrev pub HaveColumns : Type 0
-HaveColumns = (bytes : List ℕ) (mode : Mode) (terms : List (List ℕ)) (queries : List reader.QueryData) → reader.IsQueryFile bytes mode terms queries → AllByRecursion (λ (query : reader.QueryData). IsColumn query.id) queries
-
-abbrev pub HaveTerms : Type 0
-HaveTerms = (bytes : List ℕ) (mode : Mode) (terms : List (List ℕ)) (queries : List reader.QueryData) → reader.IsQueryFile bytes mode terms queries
-    → AllByRecursion (λ (query : reader.QueryData). AreTerms query.terms × All (λ (n : QueryTerm). n.times ≤ MOST_TIMES) query.terms) queries
-
-accepted_one : {A : Type 0} (x y : A) → (let j : Judged A = Accepted x in j) ≡ Accepted y → x ≡ y
-accepted_one x y is = cc
-
 -- the inputs of a search are a file's index, and queries that can be asked
 pub record CanBeAudited (search : SearchData) (inputs : SearchInputs) : Type 0 where
   pub view : FileView
@@ -69,24 +47,12 @@ pub record CanBeAudited (search : SearchData) (inputs : SearchInputs) : Type 0 w
 module _ (indexes : IndexesAreJudged) (asked_queries : QueriesAreJudged) (columns : HaveColumns) (terms : HaveTerms) where
   pub can_be_audited : (index queries run reports : List ℕ) (search : SearchData) (mode : Mode) (files : Files) (held : HoldSearch index queries run reports search mode files) → CanBeAudited search held.inputs
   can_be_audited index queries run reports search mode files held =
-      let (view, indexed, rest) = behind_found (judge_index index (Some files)) _ held.inputs held.accepted in
-      let (content, there, more) = behind_found (judge_content queries (Some files)) _ held.inputs rest in
-      let (lined, read, made) = behind_found (judge_queries queries mode (texts_of view.index.terms) content) _ held.inputs more in
-      let (bytes, stored, is) = indexes index files view indexed in
-      let (asked, file, lines, same) = asked_queries queries mode (texts_of view.index.terms) content lined read in
-      let whole : record { index = view.index; queries = lined } ≡ held.inputs = accepted_one (record { index = view.index; queries = lined }) held.inputs made in
-      let queries_are : map plain_query asked ≡ without_lines held.inputs.queries = sym same ∙ ap (λ (i : SearchInputs). without_lines i.queries) whole in
+      let can = can_be_searched indexes asked_queries columns terms index queries mode files held.inputs held.bytes held.accepted in
       record {
-        view = view;
-        file = (is (held.bytes bytes stored)).1;
-        index = sym (ap (λ (i : SearchInputs). i.index) whole);
-        askable = record {
-          ids = subst (AllByRecursion (λ (query : QueryData). IsColumn query.id)) queries_are (all_plain (λ (query : QueryData). IsColumn query.id) asked (columns content mode (texts_of view.index.terms) asked file));
-          terms = subst (AllByRecursion (λ (query : QueryData). AreTerms query.terms × All (λ (n : QueryTerm). n.times ≤ MOST_TIMES) query.terms)) queries_are
-              (all_plain (λ (query : QueryData). AreTerms query.terms × All (λ (n : QueryTerm). n.times ≤ MOST_TIMES) query.terms) asked (terms content mode (texts_of view.index.terms) asked file));
-          tag = tag_column search.tag held.tag;
-          few = held.few;
-        };
+        view = can.view;
+        file = can.file;
+        index = can.index;
+        askable = record { ids = can.ids; terms = can.terms; tag = tag_column search.tag held.tag; few = held.few };
       }
 
 -- ---- reports of a search are such as an audit wants

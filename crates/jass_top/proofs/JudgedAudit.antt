@@ -1,6 +1,8 @@
 -- What the inputs of an audit are judged to be, from what opening them gave.
-use Rattle.shared_lemmas.proofs.Common.{◌≡◌, ◌≢◌, ◌≤◌, ◌<◌, ◌^◌, ℕ, List, [], ◌∷◌, length, take, Bool, true, false, nat_le, Option, Some, None, Result, Ok, Err, refl, sym, ap, subst, ◌∙◌, ◌⊎◌, inl, inr, arith, nat_tests, take_all, if◌then◌else◌, get}
-use Rattle.std.proofs.Common.{length-take}
+use Rattle.shared_lemmas.proofs.Common.{◌≡◌, ◌≢◌, ◌≤◌, ◌<◌, ◌^◌, ℕ, List, [], ◌∷◌, length, take, Bool, true, false, nat_le, nat_lt, Option, Some, None, Result, Ok, Err, refl, sym, ap, subst, ◌∙◌, ◌⊎◌, inl, inr, arith, nat_tests, take_all, if◌then◌else◌, get}
+use Rattle.std.proofs.Common.{IsSomeAnd, length-drop}
+use Rattle.shared_lemmas.proofs.Common.{cases_lt}
+use Rattle.jass_base.specs.Outside.{AreBytesAt, GivesBytes, OnContent}
 use Rattle.jass_top.proofs.Below.{Files, FileView, Mode, texts_of}
 use Rattle.text_lines.specs.Lines.{LineData, lines_of, numbered_from}
 use Rattle.trec_run.specs.declared.run_line.RunLine.{RunLine}
@@ -21,6 +23,7 @@ use Rattle.jass_top.specs.Private.Audits.{AreAudited}
 use Rattle.jass_top.specs.Private.Causes.{Unheld, Unread}
 use Rattle.jass_top.specs.Private.Inputs.{AcceptsSuch, HasInput}
 use Rattle.jass_top.specs.Private.SearchRuns.{asked_of}
+use Rattle.jass_top.proofs.Asked.{accepted_one}
 use Rattle.jass_top.proofs.Behind.{behind_found, behind_told, shown_then, unread_before, unread_behind, unread_first, unread_then}
 use Rattle.jass_top.proofs.Judged.{content_found, content_only, content_told}
 use Rattle.jass_top.proofs.JudgedFiles.{index_told}
@@ -52,27 +55,38 @@ sized_found name there content is = at (nat_le (length there) (2 ^ 32)) refl is
     at true fits is = (let same : there ≡ content = cc in (same, grind (arith, nat_tests, fits, ap length same)))
     at false long is = cc
 
--- a front of one byte more is as long as the content, or too long as this is
-module _ (name row : List ℕ) (told : Option Files) (had : AcceptsSuch (judge_content name told) (λ content. row ≡ take 4294967297 content)) where
-  pub text_shown : length row ≤ 2 ^ 32 → Shows (judge_audited name told) (Accepted row)
-  text_shown few = at had
-    where
-      at : AcceptsSuch (judge_content name told) (λ content. row ≡ take 4294967297 content) → Shows (judge_audited name told) (Accepted row)
-      at (inl untold) = inl (ap (λ j. behind j (auditable name)) untold)
-      at (inr (content, there, front)) =
-          let size : length row ≡ length (take 4294967297 content) = ap length front in
-          let fits : length content ≤ 4294967297 = omega (arith, size, few, length-take 4294967297 content) in
-          let whole : row ≡ content = front ∙ take_all 4294967297 content fits in
-          inr (ap (λ j. behind j (auditable name)) there ∙ short_text name content (omega (arith, few, ap length whole)) ∙ ap (λ (text : List ℕ). Accepted text) (sym whole))
+-- the same content was accepted twice
+module _ (name : List ℕ) (told : Option Files) where
+  pub text_refused : AcceptsSuch (judge_content name told) (λ content. true ≡ nat_lt (2 ^ 32) (length content)) → Shows (judge_audited name told) (Refuses name 82 (Line 0))
+  text_refused (inl untold) = inl (ap (λ j. behind j (auditable name)) untold)
+  text_refused (inr (content, there, long)) = inr (ap (λ j. behind j (auditable name)) there ∙ long_text name content (grind (arith, nat_tests, long)))
 
-  pub text_refused : 2 ^ 32 < length row → Shows (judge_audited name told) (Refuses name 82 (Line 0))
-  text_refused long = at had
-    where
-      at : AcceptsSuch (judge_content name told) (λ content. row ≡ take 4294967297 content) → Shows (judge_audited name told) (Refuses name 82 (Line 0))
-      at (inl untold) = inl (ap (λ j. behind j (auditable name)) untold)
-      at (inr (content, there, front)) =
-          let size : length row ≡ length (take 4294967297 content) = ap length front in
-          inr (ap (λ j. behind j (auditable name)) there ∙ long_text name content (omega (arith, size, long, length-take 4294967297 content)))
+  pub text_shown : (row : List ℕ) → AcceptsSuch (judge_content name told) (λ content. false ≡ nat_lt (2 ^ 32) (length content)) → AcceptsSuch (judge_content name told) (λ content. row ≡ take (2 ^ 32) content)
+      → Shows (judge_audited name told) (Accepted row)
+  text_shown row (inl untold) had = inl (ap (λ j. behind j (auditable name)) untold)
+  text_shown row (inr seen) (inl untold) = inl (ap (λ j. behind j (auditable name)) untold)
+  text_shown row (inr (content, there, short)) (inr (other, here, front)) =
+      let same : content ≡ other = accepted_one content other (sym there ∙ here) in
+      let fits : length content ≤ 2 ^ 32 = grind (arith, nat_tests, short) in
+      let whole : row ≡ content = front ∙ ap (take (2 ^ 32)) (sym same) ∙ take_all (2 ^ 32) content fits in
+      inr (ap (λ j. behind j (auditable name)) there ∙ short_text name content fits ∙ ap (λ (text : List ℕ). Accepted text) (sym whole))
+
+-- a byte was read behind the last that a file may have, or there is none
+pub long_or_not : (E : Type 0) (told : Option Files) (name : List ℕ) (count : ℕ) (buf : List ℕ) → 0 < length buf → GivesBytes {E = E} told name (2 ^ 32) (Ok count) buf → OnContent told name (λ content. nat_lt 0 count ≡ nat_lt (2 ^ 32) (length content))
+long_or_not E None name count buf one given = tt
+long_or_not E (Some files) name count buf one given = at (get files name) given
+  where
+    at : (o : Option (List ℕ)) → IsSomeAnd o (λ content. AreBytesAt content (2 ^ 32) count buf) → IsSomeAnd o (λ content. nat_lt 0 count ≡ nat_lt (2 ^ 32) (length content))
+    at None is = absurd is
+    at (Some content) is = by (cases_lt 0 count)
+      where
+        by : (0 < count) ⊎ (count ≤ 0) → nat_lt 0 count ≡ nat_lt (2 ^ 32) (length content)
+        by (inl some) =
+            let long : 2 ^ 32 < length content = omega (arith, some, is.within, length-drop (2 ^ 32) content) in
+            (let first : nat_lt 0 count ≡ true = grind (arith, nat_tests, some) in first) ∙ sym (let last : nat_lt (2 ^ 32) (length content) ≡ true = grind (arith, nat_tests, long) in last)
+        by (inr none) =
+            let short : length content ≤ 2 ^ 32 = is.end (omega (arith, none)) one in
+            (let first : nat_lt 0 count ≡ false = grind (arith, nat_tests, none) in first) ∙ sym (let last : nat_lt (2 ^ 32) (length content) ≡ false = grind (arith, nat_tests, short) in last)
 
 -- ---- the lines of a run
 

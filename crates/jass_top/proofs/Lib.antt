@@ -1,11 +1,13 @@
 mod Below
 pub mod AskedLists
+pub mod Asked
 pub mod Asking
 pub mod AuditRuns
 pub mod AuditedSearch
 pub mod Behind
 pub mod EndingCauses
 pub mod Endings
+pub mod Exhausted
 pub mod Exported
 pub mod Finished
 pub mod Judged

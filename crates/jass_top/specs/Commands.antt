@@ -1,7 +1,8 @@
 -- What each command means.
 use Rattle.jass_top.specs.AuditMeaning.{audit_meaning}
 use Rattle.jass_top.specs.CheckMeaning.{check_meaning}
-use Rattle.jass_words.specs.Words.{CommandData, Once, Rewrite, Import, Check, Export, Migrate, Search, Audit, Serve, Trial, Help, Version}
+use Rattle.jass_words.specs.Words.{CommandData, Once, Rewrite, Import, Check, Export, Migrate, Search, Exhaust, Audit, Serve, Trial, Help, Version}
+use Rattle.jass_top.specs.ExhaustMeaning.{exhaust_meaning}
 use Rattle.jass_top.specs.ExportMeaning.{export_meaning}
 use Rattle.jass_top.specs.HelpMeaning.{help_meaning}
 use Rattle.jass_top.specs.ImportMeaning.{import_meaning}
@@ -23,6 +24,7 @@ meaning_of (Export index ciff) = export_meaning index ciff
 meaning_of (Migrate from to) = migrate_meaning from to
 meaning_of (Search index queries run k limits tag mode) =
     search_meaning index queries run (search_within k limits tag) mode
+meaning_of (Exhaust index queries run k tag mode) = exhaust_meaning index queries run k tag mode
 meaning_of (Audit index queries run reports k limits tag mode) =
     audit_meaning index queries run reports (record { k = k; budgets = limits; tag = tag }) mode
 meaning_of (Serve index frames) = serve_meaning index frames

@@ -4,6 +4,7 @@ pub mod Causes
 pub mod CheckMeaning
 pub mod Commands
 pub mod Endings
+pub mod ExhaustMeaning
 pub mod ExportMeaning
 pub mod HelpMeaning
 pub mod ImportMeaning

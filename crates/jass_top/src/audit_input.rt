@@ -1,7 +1,9 @@
-ghost use Rattle.std.specs.Prelude.{◌≡◌, ◌≤◌, [], ◌∷◌, IfOk, IfErr};
+ghost use Rattle.std.specs.Prelude.{◌≡◌, ◌≤◌, [], ◌∷◌, length, nat_lt, IfOk, IfErr};
+ghost use Rattle.jass_base.specs.declared.limits.TheConstants.{LONGEST_FILE};
 ghost use Rattle.jass_top.specs.AuditMeaning.{judge_audited, judge_run};
-ghost use Rattle.jass_top.specs.Judging.{Accepted, Shows, behind};
+ghost use Rattle.jass_top.specs.Judging.{Accepted, Shows, behind, judge_content};
 ghost use Rattle.jass_top.specs.Private.Causes.{Unheld, Unread};
+ghost use Rattle.jass_top.specs.Private.Inputs.{AcceptsSuch};
 
 use crate::content_input::file_front;
 use crate::stop::{Place, Stop};
@@ -9,10 +11,6 @@ use jass_base::limits::LONGEST_FILE;
 use jass_base::{Cabinet, Row};
 use std::alloc::Global;
 use trec_run::{RunFault, RunLine, read_run};
-
-/// How many bytes of a file are read at the most: one more than a file may have that is audited, since a longer one is
-/// refused whatever else stands in it.
-const MOST_BYTES: usize = LONGEST_FILE as usize + 1;
 
 /// The number of the refusal of a file that is too long.
 const TOO_LONG: u32 = 82;
@@ -56,19 +54,38 @@ pub fn open_text<'a, C: Cabinet>(
     ensures later { C.read_faults files.old ≤ C.read_faults files.new }
     ensures others { C.write_faults files.old ≤ C.write_faults files.new }
 {
-    let text = match file_front(alloc, files, name, MOST_BYTES) {
-        Ok(text) => text,
+    match is_too_long(files, name) {
+        Ok(false) => {}
+        Ok(true) => {
+            return Err(Stop::Refused {
+                name,
+                number: TOO_LONG,
+                at: Place::Line(0),
+            });
+        }
         Err(stop) => return Err(stop),
-    };
-    if text.len() as u64 > LONGEST_FILE {
-        drop(text);
-        return Err(Stop::Refused {
-            name,
-            number: TOO_LONG,
-            at: Place::Line(0),
-        });
     }
-    Ok(text)
+    match file_front(alloc, files, name, LONGEST_FILE as usize) {
+        Ok(text) => Ok(text),
+        Err(stop) => Err(stop),
+    }
+}
+
+/// Whether a file has more bytes than one may have that is audited: one byte is looked at, behind the last of these.
+fn is_too_long<'a, C: Cabinet>(files: &mut C, name: &'a str) -> Result<bool, Stop<'a>>
+    ensures long { IfOk result (λ long. AcceptsSuch (judge_content name.now (C.told files.old))
+        (λ content. long ≡ nat_lt LONGEST_FILE (length content))) }
+    ensures unread { IfErr result (λ stop. Unread (name.now ∷ []) (judge_content name.now (C.told files.old))
+        (C.read_faults files.old) (C.read_faults files.new) stop) }
+    ensures stays { C.told files.new ≡ C.told files.old }
+    ensures later { C.read_faults files.old ≤ C.read_faults files.new }
+    ensures others { C.write_faults files.old ≤ C.write_faults files.new }
+{
+    let mut byte = [0u8; 1];
+    match files.read_at(name, LONGEST_FILE, &mut byte) {
+        Ok(count) => Ok(count > 0),
+        Err(_) => Err(Stop::ReadFault { name }),
+    }
 }
 
 /// The lines of a text that have bytes, as those of the run of this name.

@@ -7,6 +7,7 @@ ghost use Rattle.jass_top.specs.Worlds.{outer};
 
 use crate::audit::run_audit_command;
 use crate::check::run_check;
+use crate::exhaust::run_exhaust;
 use crate::export::run_export;
 use crate::help::run_help;
 use crate::import::run_import;
@@ -60,6 +61,7 @@ fn written_by<'a>(command: Command<'a>) -> Option<&'a str>
         Command::Export { index: _, ciff } => Some(ciff),
         Command::Migrate { from: _, to } => Some(to),
         Command::Search { run, .. } => Some(run),
+        Command::Exhaust { run, .. } => Some(run),
         _ => None,
     }
 }
@@ -110,6 +112,12 @@ fn do_command<'a, C: Cabinet, I: Feed, O: Sink, L: Ledger>(
             out,
             steps,
         ),
+        Command::Exhaust {
+            index,
+            queries,
+            run,
+            asked,
+        } => run_exhaust(alloc, index, queries, run, asked, files, out, steps),
         Command::Audit(audit) => run_audit_command(alloc, audit, files, out, steps),
         Command::Trial(trial) => run_trial(
             alloc,

@@ -1,6 +1,6 @@
 //! Laws of what commands mean. Each function does nothing: its contract is the law.
 
-ghost use Rattle.std.specs.Prelude.{ℕ, ◌≡◌, ◌≢◌, ◌<◌, ◌⊎◌, true, false, List, All, Some, None, codes, map, ◌≤◌, length, sum_by};
+ghost use Rattle.std.specs.Prelude.{ℕ, ◌≡◌, ◌≢◌, ◌<◌, ◌⊎◌, true, false, List, [], ◌∷◌, All, Some, None, codes, map, ◌≤◌, length, sum_by};
 ghost use Rattle.std.specs.FinMap.{get};
 ghost use Rattle.jass_base.specs.Ciff.{CollectionData, IsCiff};
 ghost use Rattle.jass_base.specs.Outside.{Files, Rose};
@@ -10,6 +10,10 @@ ghost use Rattle.index_file.specs.Places.{codec_use};
 ghost use Rattle.index_file.specs.Sources.{IsSearchable};
 ghost use Rattle.jass_base.specs.CiffText.{canonical_ciff};
 ghost use Rattle.jass_base.specs.declared.answer.Budget.{Budget};
+ghost use Rattle.jass_base.specs.declared.answer.Grade.{Grade};
+ghost use Rattle.jass_base.specs.declared.answer.Report.{Report};
+ghost use Rattle.ranking_model.specs.Finality.{first_documents};
+ghost use Rattle.ranking_model.specs.Scores.{scores_after};
 ghost use Rattle.index_layout.specs.Reading.{read_index};
 ghost use Rattle.impact_segments.specs.Collections.{collection_index};
 ghost use Rattle.index_export.specs.Exports.{export_of};
@@ -34,10 +38,11 @@ ghost use Rattle.jass_top.specs.declared.status.Status.{Status};
 ghost use Rattle.jass_top.specs.Causes.{WriteFailed};
 ghost use Rattle.jass_top.specs.Commands.{meaning_of};
 ghost use Rattle.jass_top.specs.Endings.{Ends};
+ghost use Rattle.jass_top.specs.ExhaustMeaning.{IsExhaustOutput, exhaustive_answer};
 ghost use Rattle.jass_top.specs.Judging.{Accepted, Missing, Refuses, Untold, IsRefused, IsUnaccepted, judge_ciff, judge_content};
 ghost use Rattle.jass_top.specs.Meanings.{HasOneOutput, Output};
 ghost use Rattle.jass_top.specs.SearchMeaning.{IsSearchOutput, IsSearchReport, Search, SearchInputs};
-ghost use Rattle.jass_top.specs.SearchMeaning.{plan_over_index, postings_within, search_within};
+ghost use Rattle.jass_top.specs.SearchMeaning.{judge_search, plan_over_index, postings_within, search_within};
 ghost use Rattle.jass_top.specs.SearchTexts.{search_output, budgets_output};
 ghost use Rattle.jass_top.specs.ServeMeaning.{IsAnswered};
 ghost use Rattle.jass_top.specs.Standing.{Keeps};
@@ -57,7 +62,8 @@ use index_model::laws::the_flat_list_is_flat;
 use index_version1::laws::indexes_are_read;
 use query_reader::laws::query_files_are_read;
 use ranking_model::laws::{
-    reports_keep_their_promises, the_grade_is_one, the_prefix_is_the_longest,
+    a_plan_has_the_segments_of_its_postings, plans_are_small, reports_keep_their_promises,
+    the_grade_is_one, the_prefix_is_the_longest, the_segments_have_all_postings,
 };
 use ranking_model::prefix_laws::each_budget_has_its_prefix;
 use run_audit::laws::{
@@ -236,6 +242,36 @@ pub fn what_a_search_leaves_is_audited_ok()
     ids_of_a_query_file_are_columns();
     a_search_is_audited_with_yes();
     an_audit_has_one_verdict();
+}
+
+/// What an exhaustive search leaves is what a search leaves to which all postings are granted at once: the same run lines,
+/// for as many steps. The documents of an answer that a search marks final are those of the exhaustive one, in its order.
+pub fn an_exhaustive_search_has_all_postings()
+    ensures run { (index queries : List ℕ) (k : ℕ) (tag : List ℕ) (mode : Mode) (files : Files) (inputs : SearchInputs)
+        (output other : Output)
+        → ((content : List ℕ) → get files index ≡ Some content → All (λ byte. byte < 256) content)
+        → judge_search index queries mode (Some files) ≡ Accepted inputs → IsExhaustOutput k tag inputs output
+        → IsSearchOutput (search_within k (Budget.All ∷ []) tag) inputs other → output.content ≡ other.content }
+    ensures steps { (index queries : List ℕ) (k : ℕ) (tag : List ℕ) (mode : Mode) (files : Files) (inputs : SearchInputs)
+        (output other : Output)
+        → ((content : List ℕ) → get files index ≡ Some content → All (λ byte. byte < 256) content)
+        → judge_search index queries mode (Some files) ≡ Accepted inputs → IsExhaustOutput k tag inputs output
+        → IsSearchOutput (search_within k (Budget.All ∷ []) tag) inputs other → output.steps ≡ other.steps }
+    ensures documents { (index : IndexData) (query : QueryData) (k n : ℕ) (report : Report)
+        → n ≤ length (plan_over_index index query).segments → IsSearchReport index query k n report
+        → report.grade ≡ Grade.Final
+        → first_documents (scores_after n (plan_over_index index query)) k
+        ≡ map (λ hit. hit.doc) (exhaustive_answer index k query) }
+{
+    index_files_are_judged();
+    query_files_are_judged();
+    terms_of_a_query_file_can_be_asked();
+    ids_of_a_query_file_are_columns();
+    the_flat_list_is_flat();
+    plans_are_small();
+    the_prefix_is_the_longest();
+    the_segments_have_all_postings();
+    a_plan_has_the_segments_of_its_postings();
 }
 
 /// A file that is audited is accepted exactly where it is there with at most 2^32 bytes, a longer one refused by 82 at

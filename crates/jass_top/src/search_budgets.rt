@@ -158,7 +158,7 @@ fn gather_turn<S: NamedSource, R: Sink, O: Sink>(
 
 /// Gathers an answer. Where a report may find too little room and so send those before it, the run
 /// goes first, so that no report is out before the run lines of its query.
-fn gather_hits<S: NamedSource, R: Sink>(
+pub fn gather_hits<S: NamedSource, R: Sink>(
     id: &str,
     hits: &[Hit],
     part: u32,

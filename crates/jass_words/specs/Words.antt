@@ -33,6 +33,7 @@ pub data CommandData : Type 0 where
   Export : List ℕ → List ℕ → CommandData
   Migrate : List ℕ → List ℕ → CommandData
   Search : List ℕ → List ℕ → List ℕ → ℕ → List Budget → List ℕ → Mode → CommandData
+  Exhaust : List ℕ → List ℕ → List ℕ → ℕ → List ℕ → Mode → CommandData
   Audit : List ℕ → List ℕ → List ℕ → List ℕ → ℕ → List Budget → List ℕ → Mode → CommandData
   Serve : List ℕ → ℕ → CommandData
   Trial : ℕ → ℕ → ℕ → ℕ → CommandData
@@ -40,8 +41,8 @@ pub data CommandData : Type 0 where
   Version : CommandData
 
 -- the command that its words' values make. An import without an option weighs by tf, and weights stay raw; a search
--- without one asks for 1,000 hits, all postings may be scored, the tag is `jass`, and queries are read plain; so an audit
--- takes it to have been
+-- without one asks for 1,000 hits, all postings may be scored, the tag is `jass`, and queries are read plain; an exhaustive
+-- search is the same but for budgets, and an audit takes the search to have been so
 abbrev pub command_of : (name : Name) → Values (slots_of name) → Extra (tail_of name) → CommandData
 command_of names.Once (ciff, (k, (budget, none))) terms = Once ciff k budget terms
 command_of names.Rewrite (from, (to, none)) extra = Rewrite from to
@@ -53,6 +54,9 @@ command_of names.Migrate (from, (to, none)) extra = Migrate from to
 command_of names.Search (index, (queries, (run, none))) options = Search index queries run
     (unwrap_or (given keys.Hits options) 1000) (unwrap_or (given keys.Limits options) (budgets.All ∷ []))
     (unwrap_or (given keys.Tag options) (codes "jass")) (unwrap_or (given keys.Reading options) Plain)
+command_of names.Exhaust (index, (queries, (run, none))) options = Exhaust index queries run
+    (unwrap_or (given keys.Hits options) 1000) (unwrap_or (given keys.Tag options) (codes "jass"))
+    (unwrap_or (given keys.Reading options) Plain)
 command_of names.Audit (index, (queries, (run, (reports, none)))) options = Audit index queries run reports
     (unwrap_or (given keys.Hits options) 1000) (unwrap_or (given keys.Limits options) (budgets.All ∷ []))
     (unwrap_or (given keys.Tag options) (codes "jass")) (unwrap_or (given keys.Reading options) Plain)

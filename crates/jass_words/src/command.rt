@@ -46,6 +46,14 @@ pub enum Command<'a> {
         budgets: Grants,
         asked: Asked<'a>,
     },
+    /// Answers the queries of a file over an index file by all postings, document at a time, and
+    /// writes a run file.
+    Exhaust {
+        index: &'a str,
+        queries: &'a str,
+        run: &'a str,
+        asked: Asked<'a>,
+    },
     /// Says whether a run and its reports are those of the search.
     Audit(Audit<'a>),
     /// Answers the lines of the input at a desk of sessions over an index file.
@@ -85,7 +93,7 @@ pub struct Import<'a> {
 }
 
 /// What `search INDEX QUERIES RUN [k=K] [budget=BUDGET,..] [tag=TAG] [mode=MODE]` asks of each query, beside its budgets;
-/// an audit asks the same.
+/// an exhaustive search and an audit ask the same.
 #[derive(Clone, Copy)]
 pub struct Asked<'a> {
     /// 1 to 100,000 hits; 1,000 where no option says otherwise.

@@ -12,6 +12,7 @@ pub enum Name {
     Export,
     Migrate,
     Search,
+    Exhaust,
     Audit,
     Serve,
     Trial,
@@ -20,7 +21,7 @@ pub enum Name {
 }
 
 /// The commands, in the order of the help text.
-pub const NAMES: [Name; 12] = [
+pub const NAMES: [Name; 13] = [
     Name::Once,
     Name::Rewrite,
     Name::Import,
@@ -28,6 +29,7 @@ pub const NAMES: [Name; 12] = [
     Name::Export,
     Name::Migrate,
     Name::Search,
+    Name::Exhaust,
     Name::Audit,
     Name::Serve,
     Name::Trial,
@@ -90,6 +92,11 @@ impl Name {
                 word: "search",
                 form: "INDEX QUERIES RUN* [k=K] [budget=B,..] [tag=TAG] [mode=plain|folded]",
                 does: "answer the queries of a file",
+            },
+            Name::Exhaust => Row {
+                word: "exhaust",
+                form: "INDEX QUERIES RUN* [k=K] [tag=TAG] [mode=plain|folded]",
+                does: "answer them by all postings, one document after the other",
             },
             Name::Audit => Row {
                 word: "audit",

@@ -131,6 +131,33 @@ pub fn read_search<'a>(words: &'a [String]) -> Result<Command<'a>, WordFault>
     }
 }
 
+pub fn read_exhaust<'a>(words: &'a [String]) -> Result<Command<'a>, WordFault>
+    ensures { ReadsAs Name.Exhaust (texts words.now) result }
+{
+    let Some(index) = file_at(words, 1, &[]) else {
+        return Err(WordFault { which: 2 });
+    };
+    let Some(queries) = file_at(words, 2, &[index]) else {
+        return Err(WordFault { which: 3 });
+    };
+    let Some(run) = file_at(words, 3, &[index, queries]) else {
+        return Err(WordFault { which: 4 });
+    };
+    match read_options(words, 4, &[Key::Hits, Key::Tag, Key::Reading]) {
+        Ok(options) => Ok(Command::Exhaust {
+            index,
+            queries,
+            run,
+            asked: Asked {
+                k: options.hits.unwrap_or(USUAL_HITS),
+                tag: options.tag.unwrap_or("jass"),
+                mode: options.mode.unwrap_or(Mode::Plain),
+            },
+        }),
+        Err(fault) => Err(fault),
+    }
+}
+
 pub fn read_audit<'a>(words: &'a [String]) -> Result<Command<'a>, WordFault>
     ensures { ReadsAs Name.Audit (texts words.now) result }
 {

@@ -4,6 +4,7 @@ ghost use Rattle.std.specs.Prelude.{◌≡◌, ◌<◌};
 
 mod auditing;
 mod ends;
+mod exhausting;
 mod indexing;
 mod rewriting;
 mod search_ends;
@@ -11,7 +12,7 @@ mod searching;
 mod serving;
 mod trials;
 
-use jass_base::{Feed, MemCabinet, MemSink, Row, SliceFeed, Steps};
+use jass_base::{Cabinet, Feed, MemCabinet, MemSink, Row, SliceFeed, Steps};
 use jass_top::run;
 use std::alloc::Global;
 use std::marker::Brand;
@@ -81,6 +82,8 @@ migrate OLD NEW*\n\
 \x20   write an index file of version 1 in version 2\n\
 search INDEX QUERIES RUN* [k=K] [budget=B,..] [tag=TAG] [mode=plain|folded]\n\
 \x20   answer the queries of a file\n\
+exhaust INDEX QUERIES RUN* [k=K] [tag=TAG] [mode=plain|folded]\n\
+\x20   answer them by all postings, one document after the other\n\
 audit INDEX QUERIES RUN REPORTS [k=K] [budget=B,..] [tag=TAG] [mode=plain|folded]\n\
 \x20   say whether a run and its reports are those of the search\n\
 serve INDEX frames=N\n\
@@ -193,11 +196,11 @@ fn check_left(rt: &impl Abort, words: &str, left: &Left, status: u8, out: &[u8],
 }
 
 /// Runs words, and gives the number of the status.
-fn ended_by<I: Feed, L: Ledger>(
+fn ended_by<C: Cabinet, I: Feed, L: Ledger>(
     alloc: Global,
     blank: Blank,
     words: &[String],
-    files: &mut MemCabinet,
+    files: &mut C,
     input: &mut I,
     out: &mut MemSink,
     notes: &mut MemSink,
@@ -211,15 +214,15 @@ fn ended_by<I: Feed, L: Ledger>(
 }
 
 /// The same with a fresh ledger.
-fn ended<I: Feed>(
+fn ended<C: Cabinet, I: Feed>(
     alloc: Global,
     words: &[String],
-    files: &mut MemCabinet,
+    files: &mut C,
     input: &mut I,
     out: &mut MemSink,
     notes: &mut MemSink,
 ) -> u8 {
-    ended_by::<I, Brand>(alloc, Blank::new(1), words, files, input, out, notes)
+    ended_by::<C, I, Brand>(alloc, Blank::new(1), words, files, input, out, notes)
 }
 
 /// A sink whose puts fail where named.
@@ -228,11 +231,11 @@ fn sink_of(rt: &impl Abort, alloc: Global, bad: &[u64]) -> MemSink {
 }
 
 /// Runs the words of a line over files and an input. The puts on the output and the notes fail where named.
-fn left_by<I: Feed>(
+fn left_by<C: Cabinet, I: Feed>(
     rt: &impl Abort,
     alloc: Global,
     words: &str,
-    files: &mut MemCabinet,
+    files: &mut C,
     input: &mut I,
     bad_puts: &[u64],
     bad_notes: &[u64],

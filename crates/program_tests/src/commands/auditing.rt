@@ -1,9 +1,12 @@
 // What an audit says of runs and reports.
 
+ghost use Rattle.std.specs.Prelude.{None, ◌≤◌, length};
+
 use super::searching::{
     CAT_DOG, CAT_DOG_REPORTS, CAT_DOG_RUN, CAT_DOG_WORDS, NOTHING, files_of, searched,
 };
-use super::{Made, NONE, TWO_TERMS, check_left, made_by, store};
+use super::{Made, NONE, TWO_TERMS, check_left, content_of, left_by, made_by, store};
+use jass_base::{Cabinet, Failed, SliceFeed};
 use std::alloc::Global;
 use std::process::Abort;
 
@@ -166,4 +169,71 @@ fn check_searched(rt: &impl Abort, alloc: Global) {
 #[test]
 fn what_a_search_leaves_is_audited(rt: HostRuntime) {
     check_searched(&rt, rt.alloc());
+}
+
+/// An index file and queries, and under each other name so many bytes; what they hold isn't told.
+#[derive(Drop)]
+struct LongFiles<'a> {
+    index: &'a [u8],
+    queries: &'a [u8],
+    longest: u64,
+    writes: u64,
+}
+
+impl<'a> Cabinet for LongFiles<'a> {
+    ghost told = { λ _. None };
+
+    ghost read_faults = { λ _. 0 };
+
+    ghost write_faults = { λ f. f.writes };
+
+    fn read_at(&mut self, name: &str, at: u64, buf: &mut [u8]) -> Result<usize, Failed> {
+        if name == "index" {
+            return Ok(copied(self.index, at, buf));
+        }
+        if name == "queries" {
+            return Ok(copied(self.queries, at, buf));
+        }
+        Ok(self.longest.saturating_sub(at).min(buf.len() as u64) as usize)
+    }
+
+    fn create(&mut self, _name: &str) -> Result<(), Failed> {
+        self.writes = self.writes.saturating_add(1);
+        Err(Failed)
+    }
+
+    fn append(&mut self, _name: &str, _bytes: &[u8]) -> Result<(), Failed> {
+        self.writes = self.writes.saturating_add(1);
+        Err(Failed)
+    }
+}
+
+/// Copies bytes of a file from a place on, and answers how many.
+fn copied(file: &[u8], at: u64, buf: &mut [u8]) -> usize
+    ensures { result ≤ length buf.old }
+{
+    let from = (at as usize).min(file.len());
+    let count = (file.len() - from).min(buf.len());
+    buf[..count].copy_from_slice(&file[from..from + count]);
+    count
+}
+
+/// A run and reports of 2^32 + 1 bytes are refused before they are read: no memory has room for them here.
+fn check_long(rt: &impl Abort, alloc: Global) {
+    let files = files_of(rt, alloc, &TWO_TERMS, CAT_DOG, NONE);
+    let index = content_of(rt, alloc, &files, "index");
+    let mut long = LongFiles {
+        index: index.as_slice(),
+        queries: CAT_DOG,
+        longest: 4_294_967_297,
+        writes: 0,
+    };
+    let mut input = SliceFeed::new(b"");
+    let left = left_by(rt, alloc, WORDS, &mut long, &mut input, &[], &[]);
+    check_left(rt, WORDS, &left, 3, NOTHING, b"run: refusal 82 at line 0\n");
+}
+
+#[test]
+fn a_run_may_have_so_many_bytes(rt: HostRuntime) {
+    check_long(&rt, rt.alloc());
 }

@@ -1,19 +1,22 @@
-use Rattle.shared_lemmas.proofs.Common.{[], refl, inl, arith, nat_tests}
-use Rattle.jass_top.specs.AuditMeaning.{auditable}
+use Rattle.std.proofs.Common.{◌≡◌, ◌^◌, Bool, true, false, List, Option, length, take, nat_lt, refl, subst, inl}
+use Rattle.jass_top.proofs.Below.{Files}
 use Rattle.jass_top.specs.Judging.{judge_content}
-use Rattle.jass_top.proofs.Behind.{unread_first}
+use Rattle.jass_top.specs.Private.Inputs.{AcceptsSuch}
 use Rattle.jass_top.proofs.JudgedAudit.{text_refused, text_shown}
 use Rattle.jass_top.proofs.audit_input.open_text.Goals as goal
 
-pub returns-in-Err-clause-unread : goal.returns-in-Err-clause-unread
-returns-in-Err-clause-unread g c =
-    unread_first c.args.name.now [] (judge_content c.args.name.now (g.C.Cabinet.told c.args.files.now)) (auditable c.args.name.now)
-    (g.C.Cabinet.read_faults c.args.files.now) (g.C.Cabinet.read_faults c.file_front.new.files) c.in-Err.stop c.in-Err.ensures.unread
+pub returns-in-Ok-true-clause-unread : goal.returns-in-Ok-true-clause-unread
+returns-in-Ok-true-clause-unread g c =
+    let told : Option Files = g.C.Cabinet.told c.args.files.now in
+    let long : AcceptsSuch (judge_content c.args.name.now told) (λ content. true ≡ nat_lt (2 ^ 32) (length content))
+    = subst (λ (b : Bool). AcceptsSuch (judge_content c.args.name.now told) (λ content. b ≡ nat_lt (2 ^ 32) (length content))) c.in-Ok-true.field-0-test c.in-Ok-true.ensures.long in
+    (inl refl, text_refused c.args.name.now told long)
 
-pub returns-then-len-gt-LONGEST_FILE-clause-unread : goal.returns-then-len-gt-LONGEST_FILE-clause-unread
-returns-then-len-gt-LONGEST_FILE-clause-unread g c =
-    (inl refl, text_refused c.args.name.now c.in-Ok.text (g.C.Cabinet.told c.args.files.now) c.in-Ok.ensures.accepted (grind (arith, nat_tests, c.if-len-gt-LONGEST_FILE.true, c.len.ensures)))
-
-pub returns-clause-accepted : goal.returns-clause-accepted
-returns-clause-accepted g c =
-    text_shown c.args.name.now c.in-Ok.text (g.C.Cabinet.told c.args.files.now) c.in-Ok.ensures.accepted (grind (arith, nat_tests, c.if-len-gt-LONGEST_FILE.false, c.len.ensures))
+pub returns-in-Ok-clause-accepted : goal.returns-in-Ok-clause-accepted
+returns-in-Ok-clause-accepted g c =
+    let told : Option Files = g.C.Cabinet.told c.args.files.now in
+    let short : AcceptsSuch (judge_content c.args.name.now told) (λ content. false ≡ nat_lt (2 ^ 32) (length content))
+    = subst (λ (b : Bool). AcceptsSuch (judge_content c.args.name.now told) (λ content. b ≡ nat_lt (2 ^ 32) (length content))) c.in-Ok-false.field-0-test c.in-Ok-false.ensures.long in
+    let front : AcceptsSuch (judge_content c.args.name.now told) (λ content. c.in-Ok.text ≡ take (2 ^ 32) content)
+    = subst (λ (files : Option Files). AcceptsSuch (judge_content c.args.name.now files) (λ content. c.in-Ok.text ≡ take (2 ^ 32) content)) c.in-Ok-false.ensures.stays c.in-Ok.ensures.accepted in
+    text_shown c.args.name.now told c.in-Ok.text short front

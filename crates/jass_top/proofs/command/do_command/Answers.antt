@@ -75,3 +75,9 @@ returns-in-Audit-clause-runs g c =
     let before = outer g.C.Cabinet g.I.Feed g.O.Sink c.args.files.now c.args.input.now c.args.out.now c.args.steps.now in
     let after = outer g.C.Cabinet g.I.Feed g.O.Sink c.run_audit_command.new.files c.args.input.now c.run_audit_command.new.out c.run_audit_command.new.steps in
     subst (λ (command : Command). Runs (meaning_of (command_data command)) before after c.run_audit_command.result) (sym c.in-Audit.is) (c.run_audit_command.ensures.runs before)
+
+pub returns-in-Exhaust-clause-runs : goal.returns-in-Exhaust-clause-runs
+returns-in-Exhaust-clause-runs g c =
+    let before = outer g.C.Cabinet g.I.Feed g.O.Sink c.args.files.now c.args.input.now c.args.out.now c.args.steps.now in
+    let after = outer g.C.Cabinet g.I.Feed g.O.Sink c.run_exhaust.new.files c.args.input.now c.run_exhaust.new.out c.run_exhaust.new.steps in
+    subst (λ (command : Command). Runs (meaning_of (command_data command)) before after c.run_exhaust.result) (sym c.in-Exhaust.is) (c.run_exhaust.ensures.runs before)

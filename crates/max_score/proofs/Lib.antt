@@ -1,0 +1,12 @@
+pub mod Ahead
+pub mod BitRows
+pub mod Bounds
+pub mod Cursors
+pub mod ListsRead
+pub mod Pieces
+pub mod Scores
+pub mod Searching
+pub mod Stamps
+pub mod Standing
+pub mod Walks
+pub mod Windows
