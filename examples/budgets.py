@@ -136,4 +136,4 @@ def budgets(words):
 
 
 if __name__ == "__main__":
-    sys.exit(run_script("budgets.py", "budgets.py BUDGETS REPORTS RUN PNG", budgets, sys.argv[1:]))
+    sys.exit(run_script("budgets.py", __doc__, budgets, sys.argv[1:]))

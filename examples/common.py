@@ -159,12 +159,33 @@ def lines_of(path):
     return whole.split("\n")[:-1]
 
 
-def run_script(name, usage, main, words):
-    """The status of a script: 0, or 2 with the usage or the reason on standard error."""
+def check_name(name, where):
+    """Refuses a text that is no name: 1 to 1,048,576 bytes without blanks and control characters."""
+    if not name or len(name.encode()) > 1 << 20 or any(character <= " " or character == "\x7f" for character in name):
+        raise Bad(f"{where}: {name[:80]!r} is no name of a document or a query")
+
+
+def run_script(name, told, main, words, own=None):
+    """The status of a script: 0, or 2 with the usage or the reason on standard error. What it is told by is its first
+    text, which `--help` prints; a word that begins with `-` and is longer than that is no file here. Of the words the first
+    `own` are the script's own, all where it isn't said."""
+    usage = told.strip() if "usage:" in told else f"usage: {told}"
+    if "--help" in words[:own]:
+        print(usage)
+        return 0
+    strange = [word for word in words[:own] if word.startswith("-") and word != "-"]
     try:
+        if strange:
+            raise Bad(f"{strange[0]} is no option; a file by such a name is ./{strange[0]}")
         if main(words):
             return 0
-        print(f"usage: {usage}", file=sys.stderr)
+        print(usage_lines(usage), file=sys.stderr)
     except (Bad, ImportError, OSError, UnicodeDecodeError, subprocess.CalledProcessError) as fault:
         print(f"{name}: {fault}", file=sys.stderr)
     return 2
+
+
+def usage_lines(told):
+    """The lines of a text that say how a script is called."""
+    lines = told[told.index("usage:"):].split("\n\n")[0]
+    return lines

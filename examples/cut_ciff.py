@@ -67,4 +67,4 @@ def cut(words):
 
 
 if __name__ == "__main__":
-    sys.exit(run_script("cut_ciff.py", "cut_ciff.py CIFF SHARDS PREFIX", cut, sys.argv[1:]))
+    sys.exit(run_script("cut_ciff.py", __doc__, cut, sys.argv[1:]))

@@ -72,4 +72,4 @@ def desk(words):
 
 
 if __name__ == "__main__":
-    sys.exit(run_script("desk.py", "desk.py JASS INDEX QUERIES K PART MOST", desk, sys.argv[1:]))
+    sys.exit(run_script("desk.py", __doc__, desk, sys.argv[1:]))

@@ -98,4 +98,4 @@ def evaluate(words):
 
 
 if __name__ == "__main__":
-    sys.exit(run_script("evaluate.py", "evaluate.py QRELS RUN [complete]", evaluate, sys.argv[1:]))
+    sys.exit(run_script("evaluate.py", __doc__, evaluate, sys.argv[1:]))

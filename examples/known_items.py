@@ -30,4 +30,4 @@ def known_items(words):
 
 
 if __name__ == "__main__":
-    sys.exit(run_script("known_items.py", "known_items.py QUERIES QRELS", known_items, sys.argv[1:]))
+    sys.exit(run_script("known_items.py", __doc__, known_items, sys.argv[1:]))

@@ -66,4 +66,4 @@ def make(words):
 
 
 if __name__ == "__main__":
-    sys.exit(run_script("make_ciff.py", "make_ciff.py CIFF [PACKAGES]", make, sys.argv[1:]))
+    sys.exit(run_script("make_ciff.py", __doc__, make, sys.argv[1:]))

@@ -36,4 +36,4 @@ def measure(words):
 
 
 if __name__ == "__main__":
-    sys.exit(run_script("measure.py", "measure.py TIMES COMMAND..", measure, sys.argv[1:]))
+    sys.exit(run_script("measure.py", __doc__, measure, sys.argv[1:], 1))

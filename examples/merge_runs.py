@@ -75,4 +75,4 @@ def merge(words):
 
 
 if __name__ == "__main__":
-    sys.exit(run_script("merge_runs.py", "merge_runs.py K QUERIES MERGED RUN..", merge, sys.argv[1:]))
+    sys.exit(run_script("merge_runs.py", __doc__, merge, sys.argv[1:]))

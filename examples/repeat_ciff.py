@@ -53,4 +53,4 @@ def repeat(words):
 
 
 if __name__ == "__main__":
-    sys.exit(run_script("repeat_ciff.py", "repeat_ciff.py CIFF TIMES TO", repeat, sys.argv[1:]))
+    sys.exit(run_script("repeat_ciff.py", __doc__, repeat, sys.argv[1:]))

@@ -92,4 +92,4 @@ def weigh(words):
 
 
 if __name__ == "__main__":
-    sys.exit(run_script("weigh_ciff.py", "weigh_ciff.py BITS PREFIX CIFF..", weigh, sys.argv[1:]))
+    sys.exit(run_script("weigh_ciff.py", __doc__, weigh, sys.argv[1:]))
