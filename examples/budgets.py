@@ -5,8 +5,10 @@ usage: budgets.py BUDGETS REPORTS RUN PNG
 
 BUDGETS is the list that the search was given as `budget=`: two numbers or more, the last of them `all`.
 REPORTS is what the search printed, RUN the file of run lines that it wrote. PNG is written. Drawn over
-the sum of the budgets: the share of final and of final or set answers, the mean overlap with the last,
-exhaustive answer, and the mean of the postings scored. Needs the package python3-matplotlib.
+the sum of the budgets, which stand at their true distances on a logarithmic axis: the overlap with the
+last, exhaustive answer, as its mean and its quartiles; the share of answers whose postings were all
+scored, of those final before, and of those set; and the mean of the postings scored. Needs the package
+python3-matplotlib.
 """
 import re
 import sys
@@ -35,7 +37,7 @@ def read_budgets(word):
 
 
 def read_reports(path, labels):
-    """The reports of each query, one for each budget, as (postings, grade)."""
+    """The reports of each query, one for each budget, as (postings, whether all are scored, grade)."""
     count = len(labels)
     reports = {}
     lines = lines_of(path)
@@ -50,7 +52,7 @@ def read_reports(path, labels):
             raise Bad(f"{path}: line {number + 1}: {query} has reports already")
         if number % count and query not in list(reports)[-1:]:
             raise Bad(f"{path}: line {number + 1}: {query} stands among the reports of another query")
-        reports.setdefault(query, []).append((int(match[2]), match[5]))
+        reports.setdefault(query, []).append((int(match[2]), match[3] == match[4], match[5]))
         if number % count and int(match[2]) < reports[query][-2][0]:
             raise Bad(f"{path}: line {number + 1}: fewer postings than before")
         if number % count < count - 1 and int(match[2]) > int(labels[number % count]):
@@ -85,24 +87,56 @@ def overlap(hits, best):
     return len(set(hits) & set(best)) / len(best)
 
 
-def draw(labels, series, postings, path):
+def quantile(values, part):
+    """The value below which this part of the sorted values lies, between two of them by their distance."""
+    place = part * (len(values) - 1)
+    low = int(place)
+    high = min(low + 1, len(values) - 1)
+    return values[low] + (values[high] - values[low]) * (place - low)
+
+
+def places_of(labels):
+    """Where the budgets stand on a logarithmic axis, `all` behind the last with a gap; and their labels,
+    of which those are left out that would run into the one before."""
+    numbers = [max(int(label), 1) for label in labels[:-1]]
+    places = numbers + [numbers[-1] * 4]
+    width = places[-1] / min(places)
+    shown, last = [], None
+    for place, label in zip(places, labels):
+        near = last is not None and place / last < width ** 0.07
+        if label == "all" and near:
+            shown[-1] = ""
+        shown.append("" if near and label != "all" else label)
+        if shown[-1]:
+            last = place
+    return places, shown
+
+
+def draw(labels, title, quartiles, shares, postings, path):
     import matplotlib
     matplotlib.use("Agg")
     from matplotlib import pyplot
-    places = range(len(labels))
-    figure, (shares, counts) = pyplot.subplots(2, 1, sharex=True, figsize=(6.4, 5.6))
-    for (label, values), shape in zip(series, ("s-", "^--", "o:")):
-        shares.plot(places, values, shape, label=label)
-    shares.set_ylim(-0.03, 1.03)
-    shares.set_ylabel("share")
-    shares.legend()
-    shares.grid(alpha=0.3)
-    counts.plot(places, postings, "D-", color="black")
-    counts.set_ylim(bottom=0)
-    counts.set_ylabel("postings scored, mean")
-    counts.set_xlabel("budget in postings, summed up")
-    counts.set_xticks(list(places), labels)
-    counts.grid(alpha=0.3)
+    places, shown = places_of(labels)
+    figure, (top, middle, bottom) = pyplot.subplots(3, 1, sharex=True, figsize=(6.4, 7.6))
+    top.set_title(title, fontsize="medium")
+    low, mean, high = zip(*quartiles)
+    top.fill_between(places, low, high, alpha=0.2, color="tab:green", label="overlap, the middle half of the queries")
+    top.plot(places, mean, "o-", color="tab:green", label="overlap, mean")
+    for (label, values), shape in zip(shares, ("s-", "^--", "v:")):
+        middle.plot(places, values, shape, label=label)
+    for plot in (top, middle):
+        plot.set_ylim(-0.03, 1.03)
+        plot.set_ylabel("share")
+        plot.legend(fontsize="small")
+    bottom.plot(places, postings, "D-", color="black")
+    bottom.set_ylim(bottom=0)
+    bottom.set_ylabel("postings scored, mean")
+    bottom.set_xlabel("budget in postings, summed up")
+    bottom.set_xscale("log")
+    bottom.set_xticks(places, shown)
+    bottom.minorticks_off()
+    for plot in (top, middle, bottom):
+        plot.grid(alpha=0.3)
     figure.tight_layout()
     figure.savefig(path, dpi=100, format="png")
 
@@ -118,20 +152,27 @@ def budgets(words):
     if not found:
         raise Bad(f"{words[2]}: no query has an exhaustive answer")
 
-    def share(place, grades):
-        return sum(of[place][1] in grades for of in reports.values()) / len(reports)
+    def share(place, holds):
+        return sum(holds(*of[place][1:]) for of in reports.values()) / len(reports)
 
-    last = len(labels) - 1
     places = range(len(labels))
-    final = [share(place, ("final",)) for place in places]
-    kept = [share(place, ("final", "set")) for place in places]
-    means = [sum(overlap(answers[query, place], answers[query, last]) for query in found) / len(found)
-             for place in places]
-    postings = [sum(of[place][0] for of in reports.values()) / len(reports) for place in places]
-    print("budget final set-or-final overlap postings")
+    scored = [share(place, lambda whole, grade: whole) for place in places]
+    final = [share(place, lambda whole, grade: not whole and grade == "final") for place in places]
+    kept = [share(place, lambda whole, grade: not whole and grade == "set") for place in places]
+    quartiles = []
     for place in places:
-        print(f"{labels[place]} {final[place]:.2f} {kept[place]:.2f} {means[place]:.3f} {postings[place]:.1f}")
-    draw(labels, [("final", final), ("final or set", kept), ("overlap", means)], postings, words[3])
+        parts = sorted(overlap(answers[query, place], answers[query, len(labels) - 1]) for query in found)
+        quartiles.append((quantile(parts, 0.25), sum(parts) / len(parts), quantile(parts, 0.75)))
+    postings = [sum(of[place][0] for of in reports.values()) / len(reports) for place in places]
+    print("budget all-scored final-before set-before overlap lower-quartile upper-quartile postings")
+    for place in places:
+        low, mean, high = quartiles[place]
+        print(f"{labels[place]} {scored[place]:.2f} {final[place]:.2f} {kept[place]:.2f} {mean:.3f} {low:.3f} "
+              f"{high:.3f} {postings[place]:.1f}")
+    most = max(len(hits) for hits in answers.values())
+    title = f"{len(reports)} {'query' if len(reports) == 1 else 'queries'}, up to {most} documents each"
+    shares = [("all postings scored", scored), ("final before", final), ("set before", kept)]
+    draw(labels, title, quartiles, shares, postings, words[3])
     return True
 
 

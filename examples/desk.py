@@ -12,14 +12,24 @@ import sys
 
 from common import Bad, number_word, run_script
 
-FRAMES = 65536
+MOST_FRAMES = 1048576  # that `serve` takes
+
+
+def enough_frames(jass, index, sessions):
+    """Frames that always have room for so many sessions: each needs one for 256 documents at the most."""
+    totals = subprocess.run([jass, "check", index], encoding="utf-8", stdout=subprocess.PIPE)
+    if totals.returncode:
+        raise Bad(f"{index}: is no index, or could not be read")
+    pages = (int(totals.stdout.split()[1]) + 255) // 256
+    return min(max(sessions * pages, 1), MOST_FRAMES)
 
 
 class Desk:
     """A running `jass serve`."""
 
-    def __init__(self, jass, index):
-        self.process = subprocess.Popen([jass, "serve", index, f"frames={FRAMES}"], encoding="utf-8",
+    def __init__(self, jass, index, sessions):
+        frames = enough_frames(jass, index, sessions)
+        self.process = subprocess.Popen([jass, "serve", index, f"frames={frames}"], encoding="utf-8",
                                         stdin=subprocess.PIPE, stdout=subprocess.PIPE)
 
     def ask(self, line):
@@ -53,7 +63,7 @@ def desk(words):
     with open(queries, encoding="utf-8") as text:
         asked = [line.split(maxsplit=1) for line in text if line.strip()]
 
-    served = Desk(jass, index)
+    served = Desk(jass, index, len(asked))
     names = [query[0] for query in asked]
     for name, *mentions in asked:
         served.ask(" ".join(["open", name, str(k), *(text.strip() for text in mentions)]))
