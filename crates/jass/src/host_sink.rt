@@ -10,13 +10,23 @@ use std::io::{ErrorKind, Write};
 pub struct HostSink<W: Write + Drop> {
     inner: Option<W>,
     faults: u64,
+    reason: Option<io::Error>,
 }
 
 impl<W: Write + Drop> HostSink<W> {
     pub fn new(inner: Option<W>) -> HostSink<W>
         ensures quiet { ⟦<HostSink<W> as Sink>⟧.faults result ≡ 0 }
     {
-        HostSink { inner, faults: 0 }
+        HostSink {
+            inner,
+            faults: 0,
+            reason: None,
+        }
+    }
+
+    /// Why the host failed last, if it did.
+    pub fn reason(&self) -> Option<io::Error> {
+        self.reason
     }
 
     #[cfg(test)]
@@ -37,7 +47,8 @@ impl<W: Write + Drop> Sink for HostSink<W> {
         };
         match put {
             Ok(()) => Ok(()),
-            Err(_) => {
+            Err(reason) => {
+                self.reason = Some(reason);
                 self.faults = self.faults.saturating_add(1);
                 Err(Failed)
             }
