@@ -1,11 +1,12 @@
 #!/usr/bin/env python3
-"""Whether docs/DEFINITIONS.md names each word of specs/ that the contract of `run` reaches.
+"""Whether docs/DEFINITIONS.md names each file of specs/ with a word that the contract of `run` reaches.
 
 usage: trials/definitions.py [--parts]
 
 It reads the clauses of `run` in crates/jass_top/src/program.rt, and follows each word through the files of specs/
-that define and import it. It prints the words that the document doesn't name, and ends with 1 where there are some.
-With --parts it prints the rows of the section "Parts": the words that no other section names, file by file.
+that define and import it. It prints the words that the document doesn't name and whose file it doesn't name either,
+and ends with 1 where there are some. With --parts it prints the words that it doesn't name, file by file: each is a
+part of the definition of one that it names.
 """
 import os
 import re
@@ -14,7 +15,6 @@ import sys
 ROOT = os.path.dirname(os.path.dirname(os.path.abspath(__file__)))
 DOCUMENT = f"{ROOT}/docs/DEFINITIONS.md"
 TOP = f"{ROOT}/crates/jass_top/src/program.rt"
-SECTION = "## Parts\n"
 
 
 class Module:
@@ -107,21 +107,21 @@ def reached(found):
 def main(words):
     with open(DOCUMENT, encoding="utf-8") as file:
         text = file.read()
+    named = {name.rstrip("`") for name in re.findall(r"`([^`\s]+)", text)}
+    named |= {part for name in named for part in name.split("/")}
+    left = [it for it in reached(modules()) if it[2].rstrip("`") not in named]
     if words == ["--parts"]:
-        text = text.partition(SECTION)[0]
-    named = set(re.findall(r"`([^`\s]+)", text))
-    left = [it for it in reached(modules()) if it[2].rstrip("`") not in {name.rstrip("`") for name in named}]
-    if words != ["--parts"]:
+        rows = {}
         for crate, place, word in left:
-            print(f"{crate}/specs/{place}: {word}")
-        print(f"{len(left)} words are not named")
-        return 1 if left else 0
-    rows = {}
+            rows.setdefault(f"{crate}/specs/{place}", []).append(f"`{word}`")
+        for place, parts in rows.items():
+            print(f"| `{place}` | {', '.join(parts)} |")
+        return 0
+    left = [it for it in left if it[0] not in named or it[1] not in named]
     for crate, place, word in left:
-        rows.setdefault(f"{crate}/specs/{place}", []).append(f"`{word}`")
-    for place, parts in rows.items():
-        print(f"| `{place}` | {', '.join(parts)} |")
-    return 0
+        print(f"{crate}/specs/{place}: {word}")
+    print(f"{len(left)} words stand in a file that is not named")
+    return 1 if left else 0
 
 
 if __name__ == "__main__":
