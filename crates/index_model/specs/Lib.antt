@@ -3,4 +3,5 @@ pub mod Flat
 pub mod Grouping
 pub mod Index
 pub mod Querying
+pub mod Unions
 pub mod Views
