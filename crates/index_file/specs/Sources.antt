@@ -2,14 +2,14 @@
 use Rattle.std.specs.Prelude.{ℕ, ◌≡◌, ◌≢◌, ◌+◌, ◌*◌, ◌≤◌, List, [], ◌++◌, length, take}
 use Rattle.jass_base.specs.declared.limits.TheConstants.{MOST_DOCUMENTS, MOST_POSTINGS}
 use Rattle.lane_kernels.specs.Bitmap.{set_bits}
-use Rattle.index_model.specs.Index.{IndexData, IsIndex}
+use Rattle.index_model.specs.Index.{IndexData, IsWellFormed}
 use Rattle.index_layout.specs.View.{index_postings}
 use Rattle.index_file.specs.declared.piece.Piece.{Piece}
 use Rattle.index_file.specs.declared.piece.Piece.TheVariants.{Block, Bits}
 
 -- an index that can be searched: its numbers are within their limits, and it has at most 2^29 postings
 pub record IsSearchable (index : IndexData) : Type 0 where
-  pub is_index : IsIndex index
+  pub is_well_formed : IsWellFormed index
   pub postings : index_postings index ≤ MOST_POSTINGS
 
 -- the documents of a piece: those at the front of a block, or those whose bits are set

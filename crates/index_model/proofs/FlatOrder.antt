@@ -7,7 +7,7 @@ use Rattle.ranking_model.specs.declared.entry.Entry.{Entry}
 use Rattle.ranking_model.specs.Flat.{entry_cmp, IsFlat}
 use Rattle.ranking_model.proofs.Sorting.{Ascends, ascends_append, sorted_ascending}
 use Rattle.ranking_model.proofs.Orders.{entry_total}
-use Rattle.index_model.specs.Index.{SegmentData, TermData, IndexData, IsSegment, IsTerm, IsIndex, FallsTo, SharesNoDocument, RisesTo}
+use Rattle.index_model.specs.Index.{SegmentData, TermData, IndexData, IsSegment, IsTerm, IsWellFormed, FallsTo, SharesNoDocument, RisesTo}
 use Rattle.index_model.specs.Flat.{doc_entries, segment_entries, term_entries, flat_of_terms, flat_of, numbered_from, numbered_flat}
 use Rattle.index_model.proofs.Numbers.{own_entries}
 
@@ -24,6 +24,10 @@ pub record Kept (documents : ℕ) (segments : List SegmentData) : Type 0 where
   pub once : Pairs SharesNoDocument segments
   pub below : AllByRecursion (λ (s : SegmentData). AllByRecursion (λ (doc : ℕ). doc < documents) s.docs) segments
   pub impacts : AllByRecursion (λ (s : SegmentData). (1 ≤ s.impact) × (s.impact ≤ 65535)) segments
+
+-- the segments fall by their impacts, and the documents of each rise
+abbrev pub Stand : List SegmentData → Type 0
+Stand segments = Pairs FallsTo segments × AllByRecursion (λ (s : SegmentData). Pairs (λ (x y : ℕ). x < y) s.docs) segments
 
 module _ {T : Type 0} (cmp : T → T → Ordering) (total : IsTotalOrder cmp) where
   abbrev pub flat_keyed : List (T × List SegmentData) → List (Entry T)
@@ -85,9 +89,9 @@ module _ {T : Type 0} (cmp : T → T → Ordering) (total : IsTotalOrder cmp) wh
       (all_weaker (λ (e : Entry T). e.term ≡ k.0) (λ (e : Entry T). P e.term) (λ e is. subst P (sym is) h.0) (term_entries k.0 k.1) (own_entries k.0 k.1))
       (behind_key P ks h.1)
 
-  keyed_ascends : (d : ℕ) (ks : List (T × List SegmentData)) → Pairs KeysRise ks → AllByRecursion (λ (k : T × List SegmentData). Kept d k.1) ks → Ascends (entry_cmp cmp) (flat_keyed ks)
-  keyed_ascends d [] h kept = tt
-  keyed_ascends d (k ∷ ks) h kept = ascends_append (entry_cmp cmp) (term_entries k.0 k.1) (flat_keyed ks) (term_ascends k.0 k.1 kept.0.falling kept.0.rising) (keyed_ascends d ks h.1 kept.1)
+  keyed_ascends : (ks : List (T × List SegmentData)) → Pairs KeysRise ks → AllByRecursion (λ (k : T × List SegmentData). Stand k.1) ks → Ascends (entry_cmp cmp) (flat_keyed ks)
+  keyed_ascends [] h stand = tt
+  keyed_ascends (k ∷ ks) h stand = ascends_append (entry_cmp cmp) (term_entries k.0 k.1) (flat_keyed ks) (term_ascends k.0 k.1 stand.0.0 stand.0.1) (keyed_ascends ks h.1 stand.1)
       (all_across (λ (e : Entry T). e.term ≡ k.0) (λ (e : Entry T). is_lt (cmp k.0 e.term) ≡ true) NotAfter (λ x y p q. by_term x y (subst (λ (t : T). is_lt (cmp t y.term) ≡ true) (sym p) q)) (term_entries k.0 k.1) (flat_keyed ks)
       (own_entries k.0 k.1) (behind_key (λ (t : T). is_lt (cmp k.0 t) ≡ true) ks h.0))
 
@@ -146,7 +150,8 @@ module _ {T : Type 0} (cmp : T → T → Ordering) (total : IsTotalOrder cmp) wh
   keyed_flat d ks rise kept =
       let flat : List (Entry T) = flat_keyed ks in
       record {
-        order = sorted_ascending (entry_cmp cmp) (entry_total cmp total) flat (keyed_ascends d ks rise kept);
+        order = sorted_ascending (entry_cmp cmp) (entry_total cmp total) flat (keyed_ascends ks rise
+            (all_weaker (λ (k : T × List SegmentData). Kept d k.1) (λ (k : T × List SegmentData). Stand k.1) (λ k is. (is.falling, is.rising)) ks kept));
         once = pairs_by_places Once flat (keyed_once d ks rise kept);
         documents = All-from_recursion (λ (e : Entry T). e.doc < d) flat (each_key (λ (doc impact : ℕ). doc < d) ks
             (all_weaker (λ (k : T × List SegmentData). Kept d k.1) (λ (k : T × List SegmentData). AllByRecursion (λ (s : SegmentData). AllByRecursion (λ (doc : ℕ). doc < d) s.docs) k.1) (λ k is. is.below) ks kept));
@@ -184,7 +189,12 @@ keys_kept : (d : ℕ) (terms : List TermData) → AllByRecursion (IsTerm d) term
 keys_kept d terms h = all_map (λ (k : List ℕ × List SegmentData). Kept d k.1) (λ (t : TermData). (t.term, t.segments)) terms
     (all_weaker (IsTerm d) (λ (t : TermData). Kept d t.segments) (term_kept d) terms h)
 
-pub bytes_flat : (index : IndexData) → IsIndex index → IsFlat (slice_cmp nat_cmp) (length index.names) (flat_of index)
+-- terms that rise, and whose segments and documents stand in order, have their entries in order
+pub terms_ascend : (terms : List TermData) → Pairs RisesTo terms → AllByRecursion (λ (t : TermData). Stand t.segments) terms → Ascends (entry_cmp (slice_cmp nat_cmp)) (flat_of_terms terms)
+terms_ascend terms rise stand = subst (Ascends (entry_cmp (slice_cmp nat_cmp))) (of_keys terms)
+    (keyed_ascends (slice_cmp nat_cmp) nat_list_cmp_total (keys_of terms) (keys_rise terms rise) (all_map (λ (k : List ℕ × List SegmentData). Stand k.1) (λ (t : TermData). (t.term, t.segments)) terms stand))
+
+pub bytes_flat : (index : IndexData) → IsWellFormed index → IsFlat (slice_cmp nat_cmp) (length index.names) (flat_of index)
 bytes_flat index is =
     let d = length index.names in
     subst (IsFlat (slice_cmp nat_cmp) d) (of_keys index.terms)
@@ -211,7 +221,7 @@ numbers_kept : (d n : ℕ) (terms : List TermData) → AllByRecursion (IsTerm d)
 numbers_kept d n [] h = tt
 numbers_kept d n (t ∷ ts) h = (term_kept d t h.0, numbers_kept d (suc n) ts h.1)
 
-pub numbers_flat : (index : IndexData) → IsIndex index → IsFlat nat_cmp (length index.names) (numbered_flat index)
+pub numbers_flat : (index : IndexData) → IsWellFormed index → IsFlat nat_cmp (length index.names) (numbered_flat index)
 numbers_flat index is =
     let d = length index.names in
     subst (IsFlat nat_cmp d) (of_numbers 0 index.terms)

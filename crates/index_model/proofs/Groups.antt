@@ -4,9 +4,10 @@ use Rattle.std.specs.Str.{bytes_eq}
 use Rattle.jass_base.proofs.ByteOrder.{bytes_apart}
 use Rattle.shared_lemmas.proofs.Numbers.{number_itself, numbers_apart}
 use Rattle.shared_lemmas.proofs.Texts.{bytes_itself}
+use Rattle.shared_lemmas.proofs.Lists.{all_weaker}
 use Rattle.shared_lemmas.proofs.Pairs.{Pairs, pairs_by_recursion}
 use Rattle.ranking_model.specs.declared.entry.Entry.{Entry}
-use Rattle.index_model.specs.Index.{SegmentData, TermData, IndexData, IsSegment, IsTerm, IsIndex, FallsTo, RisesTo}
+use Rattle.index_model.specs.Index.{SegmentData, TermData, IndexData, IsSegment, IsTerm, IsWellFormed, FallsTo, RisesTo}
 use Rattle.index_model.specs.Flat.{doc_entries, segment_entries, term_entries, flat_of_terms, flat_of}
 use Rattle.index_model.specs.Grouping.{with_posting, with_entry, with_entries, index_with}
 
@@ -45,7 +46,7 @@ segment_first term impact d (e ∷ docs) terms other =
     ap (with_entry (record { term = term; doc = d; impact = impact })) (segment_first term impact e docs terms other)
     ∙ rw (bytes_itself term, number_itself impact) refl
 
-abbrev HasSome : SegmentData → Type 0
+abbrev pub HasSome : SegmentData → Type 0
 HasSome s = 0 < length s.docs
 
 segments_there : (term : List ℕ) (s : SegmentData) (segments : List SegmentData) (terms : List TermData) → IsOtherTerm term terms → AllByRecursion HasSome (s ∷ segments) → Pairs FallsTo (s ∷ segments)
@@ -65,30 +66,30 @@ segments_there term s (next ∷ segments) terms other some falling =
     with_docs [] none = absurd (omega (arith, none))
     with_docs (d ∷ docs) some = segment_there term s.impact d docs (next ∷ segments) terms falling.0.0
 
-terms_there : (d : ℕ) (terms : List TermData) → AllByRecursion (IsTerm d) terms → Pairs RisesTo terms → with_entries (flat_of_terms terms) [] ≡ terms
-terms_there d [] are rising = refl
-terms_there d (t ∷ terms) are rising =
+-- a term has segments, by falling impact, and each of them documents
+abbrev pub IsFull : TermData → Type 0
+IsFull t = (1 ≤ length t.segments) × AllByRecursion HasSome t.segments × Pairs FallsTo t.segments
+
+pub terms_there : (terms : List TermData) → AllByRecursion IsFull terms → Pairs RisesTo terms → with_entries (flat_of_terms terms) [] ≡ terms
+terms_there [] are rising = refl
+terms_there (t ∷ terms) are rising =
     entries_behind (term_entries t.term t.segments) (flat_of_terms terms) []
-    ∙ ap (with_entries (term_entries t.term t.segments)) (terms_there d terms are.1 rising.1)
-    ∙ with_segments t.segments are.0.some (segments_have are.0) (pairs_by_recursion FallsTo t.segments are.0.falling)
+    ∙ ap (with_entries (term_entries t.term t.segments)) (terms_there terms are.1 rising.1)
+    ∙ with_segments t.segments are.0.0 are.0.1 are.0.2
   where
     first_apart : (rest : List TermData) → AllByRecursion (RisesTo t) rest → IsOtherTerm t.term rest
     first_apart [] rises = tt
     first_apart (u ∷ rest) rises = bytes_apart t.term u.term rises.0
-
-    have : (segments : List SegmentData) → AllByRecursion (IsSegment d) segments → AllByRecursion HasSome segments
-    have [] are = tt
-    have (s ∷ segments) are = (are.0.docs.some, have segments are.1)
-
-    segments_have : IsTerm d t → AllByRecursion HasSome t.segments
-    segments_have is = have t.segments (recursion_from_All (IsSegment d) t.segments is.segments)
 
     with_segments : (segments : List SegmentData) → 1 ≤ length segments → AllByRecursion HasSome segments → Pairs FallsTo segments
         → with_entries (term_entries t.term segments) terms ≡ record { term = t.term; segments = segments } ∷ terms
     with_segments [] none some falling = absurd (omega (arith, none))
     with_segments (s ∷ segments) one some falling = segments_there t.term s segments terms (first_apart terms rising.0) some falling
 
-pub index_again : (index : IndexData) → IsIndex index → index_with index.names (flat_of index) ≡ index
+term_full : (d : ℕ) (t : TermData) → IsTerm d t → IsFull t
+term_full d t is = (is.some, all_weaker (IsSegment d) HasSome (λ s k. k.docs.some) t.segments (recursion_from_All (IsSegment d) t.segments is.segments), pairs_by_recursion FallsTo t.segments is.falling)
+
+pub index_again : (index : IndexData) → IsWellFormed index → index_with index.names (flat_of index) ≡ index
 unfolding index_with
 index_again index is = ap (λ (terms : List TermData). (let i : IndexData = record { names = index.names; terms = terms } in i))
-    (terms_there (length index.names) index.terms (recursion_from_All (IsTerm (length index.names)) index.terms is.terms) (pairs_by_recursion RisesTo index.terms is.rising))
+    (terms_there index.terms (all_weaker (IsTerm (length index.names)) IsFull (term_full (length index.names)) index.terms (recursion_from_All (IsTerm (length index.names)) index.terms is.terms)) (pairs_by_recursion RisesTo index.terms is.rising))

@@ -3,3 +3,4 @@ pub mod Groups
 pub mod NamedSegments
 pub mod Numbers
 pub mod Views
+pub mod WellFormed

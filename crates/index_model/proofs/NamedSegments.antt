@@ -10,7 +10,7 @@ use Rattle.ranking_model.specs.declared.posting.WeightedPosting.{WeightedPosting
 use Rattle.ranking_model.specs.Plan.{postings_of}
 use Rattle.ranking_model.specs.Postings.{weighted_from, weighted_postings}
 use Rattle.std.proofs.lemmas.Bool.{eq-eqb}
-use Rattle.index_model.specs.Index.{SegmentData, TermData, IndexData, IsSegment, IsTerm, IsIndex, FallsTo}
+use Rattle.index_model.specs.Index.{SegmentData, TermData, IndexData, IsSegment, IsTerm, IsWellFormed, FallsTo}
 use Rattle.index_model.specs.Flat.{segment_entries, term_entries, numbered_from, numbered_flat}
 use Rattle.index_model.specs.Querying.{segments_at, query_segments_at, query_segments_from, query_segments}
 use Rattle.index_model.proofs.FlatOrder.{Kept, term_kept}
@@ -123,9 +123,9 @@ apart_from d term_place (named ∷ query) terms h some =
     (all_weaker (λ (c : PlanSegment). c.term_place ≡ term_place) (λ (a : PlanSegment). AllByRecursion (λ b. Apart a b) later)
     (λ a is. all_weaker (λ (b : PlanSegment). suc term_place ≤ b.term_place) (λ b. Apart a b) (λ b far same. absurd (omega (arith, is, far, same))) later (places_from (suc term_place) query terms)) here (places_at term_place named (segments_at terms named.term)))
 
-pub all_full : (index : IndexData) (query : List QueryTerm) → IsIndex index → AllByRecursion Full (query_segments index query)
+pub all_full : (index : IndexData) (query : List QueryTerm) → IsWellFormed index → AllByRecursion Full (query_segments index query)
 all_full index query is = full_from (length index.names) 0 query index.terms (recursion_from_All (IsTerm (length index.names)) index.terms is.terms)
 
-pub all_apart : (index : IndexData) (query : List QueryTerm) → IsIndex index → All (λ (n : QueryTerm). 1 ≤ n.times) query → AllPairs Apart (query_segments index query)
+pub all_apart : (index : IndexData) (query : List QueryTerm) → IsWellFormed index → All (λ (n : QueryTerm). 1 ≤ n.times) query → AllPairs Apart (query_segments index query)
 all_apart index query is some = pairs_by_places Apart (query_segments index query)
     (apart_from (length index.names) 0 query index.terms (recursion_from_All (IsTerm (length index.names)) index.terms is.terms) (recursion_from_All (λ (n : QueryTerm). 1 ≤ n.times) query some))

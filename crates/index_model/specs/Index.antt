@@ -46,6 +46,14 @@ pub record IsTerm (documents : ℕ) (term : TermData) : Type 0 where
 abbrev pub RisesTo : TermData → TermData → Type 0
 RisesTo term later = BytesRise term.term later.term
 
+-- at most 2^26 names and any number of terms, each within its limits, and the terms rise by their bytes
+pub record IsWellFormed (index : IndexData) : Type 0 where
+  pub few_names : length index.names ≤ MOST_DOCUMENTS
+  pub names : All IsName index.names
+  pub names_are_text : All IsText index.names
+  pub rising : AllPairs RisesTo index.terms
+  pub terms : All (IsTerm (length index.names)) index.terms
+
 -- at most 2^26 names and 2^24 terms, each within its limits, and the terms rise by their bytes
 pub record IsIndex (index : IndexData) : Type 0 where
   pub few_names : length index.names ≤ MOST_DOCUMENTS

@@ -11,7 +11,7 @@ ghost use Rattle.ranking_model.specs.Flat.{IsFlat, terms_of, numbered};
 ghost use Rattle.ranking_model.specs.Order.{sorted};
 ghost use Rattle.ranking_model.specs.Plan.{postings_of, plan_cmp, plan_segments};
 ghost use Rattle.ranking_model.specs.Postings.{AreTerms, weighted_postings};
-ghost use Rattle.index_model.specs.Index.{TermData, IndexData, IsIndex};
+ghost use Rattle.index_model.specs.Index.{TermData, IndexData, IsIndex, IsWellFormed};
 ghost use Rattle.index_model.specs.Flat.{flat_of, numbered_flat};
 ghost use Rattle.index_model.specs.Grouping.{index_with};
 ghost use Rattle.index_model.specs.Querying.{query_segments};
@@ -20,17 +20,22 @@ ghost use Rattle.jass_base.specs.declared.limits.TheConstants.{GREATEST_IMPACT};
 
 use ranking_model::laws::segments_make_a_plan;
 
+/// An index is well formed: of its limits that on the number of its terms is left open.
+pub fn indexes_are_well_formed()
+    ensures { (index : IndexData) → IsIndex index → IsWellFormed index }
+{}
+
 /// The flat list of an index is flat, by the bytes of its terms and by their numbers. Its terms are
 /// those of the index, each once and in the same order, so that a term's number is its place in
 /// both.
 pub fn the_flat_list_is_flat()
-    ensures bytes { (index : IndexData) → IsIndex index →
+    ensures bytes { (index : IndexData) → IsWellFormed index →
         IsFlat (slice_cmp nat_cmp) (length index.names) (flat_of index) }
-    ensures numbers { (index : IndexData) → IsIndex index →
+    ensures numbers { (index : IndexData) → IsWellFormed index →
         IsFlat nat_cmp (length index.names) (numbered_flat index) }
-    ensures terms { (index : IndexData) → IsIndex index →
+    ensures terms { (index : IndexData) → IsWellFormed index →
         terms_of (flat_of index) ≡ map (λ (t : TermData). t.term) index.terms }
-    ensures numbered { (index : IndexData) → IsIndex index → numbered (flat_of index) ≡ numbered_flat index }
+    ensures numbered { (index : IndexData) → IsWellFormed index → numbered (flat_of index) ≡ numbered_flat index }
 {}
 
 /// The weighted postings of a query are those of the segments that it names.
@@ -41,7 +46,7 @@ pub fn a_query_weighs_its_segments()
 
 /// A query's plan has the segments that the query names, in the plan's order.
 pub fn the_plan_has_the_named_segments()
-    ensures { (index : IndexData) (query : List QueryTerm) → IsIndex index → AreTerms query →
+    ensures { (index : IndexData) (query : List QueryTerm) → IsWellFormed index → AreTerms query →
         plan_segments (weighted_postings (numbered_flat index) query) ≡ sorted plan_cmp (query_segments index query) }
 {
     segments_make_a_plan();
@@ -58,5 +63,5 @@ pub fn indexes_in_memory_are_indexes()
 
 /// An index is that of its names and its flat list, so that these determine it.
 pub fn an_index_is_that_of_its_flat_list()
-    ensures { (index : IndexData) → IsIndex index → index_with index.names (flat_of index) ≡ index }
+    ensures { (index : IndexData) → IsWellFormed index → index_with index.names (flat_of index) ≡ index }
 {}

@@ -25,9 +25,10 @@ pub use Rattle.index_layout.specs.View.{FileView, IsFileView, chosen_view, file_
 pub use Rattle.index_layout.specs.declared.refusal.OpenFault.{OpenFault}
 pub use Rattle.index_layout.specs.declared.refusal.OpenFault.TheVariants.{NoMemory, Refused}
 pub use Rattle.index_layout.specs.declared.refusal.OpenRefusal.{OpenRefusal}
+pub use Rattle.index_model.proofs.WellFormed.{well_formed}
 pub use Rattle.index_model.specs.Flat.{flat_of, flat_of_terms, numbered_flat, segment_entries, term_entries}
 pub use Rattle.index_model.specs.Grouping.{index_with}
-pub use Rattle.index_model.specs.Index.{IndexData, IsIndex, SegmentData, TermData}
+pub use Rattle.index_model.specs.Index.{IndexData, IsIndex, IsWellFormed, SegmentData, TermData}
 pub use Rattle.index_model.specs.Views.{index_data}
 pub use Rattle.index_version1.specs.Reading.{read_index1}
 pub use Rattle.index_write.specs.Saving.{Unmade, Untouched, Unwritten}

@@ -15,7 +15,7 @@ use Rattle.max_score.specs.Searches.{query_postings}
 use Rattle.ranking_model.specs.Plan.{postings_of}
 use Rattle.run_audit.specs.Private.Reading.{plan_postings}
 use Rattle.run_audit.proofs.Gathered.{flat_is_long, postings_long, size_at, size_more}
-use Rattle.jass_top.proofs.Below.{AppendsPrefix, Budget, Entry, FileView, Files, IndexData, IsFileView, IsFlat, IsIndex, Mode, PlanSegment, QueryData, QueryPlan, QueryTerm, numbered_flat, plan_of, prefix_granted, prefix_within, prefixes_granted, size_of_first, weighted_postings}
+use Rattle.jass_top.proofs.Below.{AppendsPrefix, Budget, Entry, FileView, Files, IndexData, IsFileView, IsFlat, IsWellFormed, Mode, PlanSegment, QueryData, QueryPlan, QueryTerm, numbered_flat, plan_of, prefix_granted, prefix_within, prefixes_granted, size_of_first, weighted_postings, well_formed}
 use Rattle.jass_top.specs.Endings.{Over}
 use Rattle.jass_top.specs.ExhaustMeaning.{IsExhaustOutput, exhaust_meaning, exhaustive_output, exhaustive_run, exhaustive_runs, postings_of_queries, postings_of_query}
 use Rattle.jass_top.specs.Meanings.{Output}
@@ -84,7 +84,7 @@ abbrev pub HaveSegments : Type 0
 HaveSegments = (docs : ℕ) (flat : List (Entry ℕ)) (terms : List QueryTerm) → (plan_of docs flat terms).segments ≡ plan_segments (weighted_postings flat terms)
 
 abbrev pub AreFlat : Type 0
-AreFlat = (index : IndexData) → IsIndex index → IsFlat nat_cmp (length index.names) (numbered_flat index)
+AreFlat = (index : IndexData) → IsWellFormed index → IsFlat nat_cmp (length index.names) (numbered_flat index)
 
 abbrev all_of_it : List Budget
 all_of_it = budgets.All ∷ []
@@ -100,7 +100,7 @@ module _ (longest : AreLongest) (there : AreThere) where
     plan query = plan_over_index view.index query
 
     small : (query : QueryData) → AreAsked query.terms → IsSmall (plan query)
-    small query asked = smalls (length view.index.names) (numbered_flat view.index) query.terms (flats view.index file.index) asked.0 asked.1
+    small query asked = smalls (length view.index.names) (numbered_flat view.index) query.terms (flats view.index (well_formed view.index file.index)) asked.0 asked.1
         (subst (λ (n : ℕ). n ≤ MOST_POSTINGS) (sym (flat_is_long view.index)) file.postings)
 
     same_run : (query : QueryData) → AreAsked query.terms

@@ -1,6 +1,6 @@
 -- What a cursor has read.
 use Rattle.shared_lemmas.proofs.Common.{◌≡◌, ℕ, zero, suc, ◌⊎◌, inl, inr, ◌==◌, ◌-◌, drop, drop_all, drop-drop, filter, max, min, nat_le, le-leb, nat_tests, cases_lt, if◌then◌else◌, ◌+◌, ◌<◌, ◌≤◌, List, [], ◌∷◌, length, replicate, true, false, Bool, refl, sym, ap, ◌∙◌, arith}
-use Rattle.index_model.specs.Index.{IndexData, IsIndex}
+use Rattle.index_model.specs.Index.{IndexData, IsWellFormed}
 use Rattle.index_model.specs.Querying.{segments_at}
 use Rattle.std.specs.List.{slice_index_or}
 use Rattle.max_score.specs.declared.posting.Posting.{Posting}
@@ -12,7 +12,7 @@ use Rattle.max_score.specs.Cursors.{impact_in}
 
 pub reads : (index : IndexData) (t term from : ℕ) (items now : List ℕ) (started : Bool) (cursor : CursorView)
     → (let view : CursorView = record { term = term; docs = length items; started = started; impacts = items; from = from } in view) ≡ cursor
-    → cursor ≡ unread cursor.term (length index.names) → IsIndex index → cursor.term < length index.terms → now ≡ stamped_all (segments_at index.terms cursor.term) items
+    → cursor ≡ unread cursor.term (length index.names) → IsWellFormed index → cursor.term < length index.terms → now ≡ stamped_all (segments_at index.terms cursor.term) items
     → (let view : CursorView = record { term = term; docs = length now; started = true; impacts = now; from = from } in view) ≡ read_over index cursor.term
 reads index t term from items now started cursor view blank is inside told =
     λ i. record { term = same_term i; docs = docs i; started = true; impacts = impacts i; from = begins i }

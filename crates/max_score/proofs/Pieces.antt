@@ -6,7 +6,7 @@ use Rattle.jass_base.specs.Gaps.{AreDocs}
 use Rattle.index_file.specs.Places.{segment_at}
 use Rattle.index_file.specs.Sources.{HandsOut, piece_count, piece_docs}
 use Rattle.index_file.specs.declared.piece.Piece.{Piece}
-use Rattle.index_model.specs.Index.{IndexData, IsIndex}
+use Rattle.index_model.specs.Index.{IndexData, IsWellFormed}
 use Rattle.index_model.specs.Querying.{segments_at}
 use Rattle.max_score.specs.Private.Stamping.{stamped}
 use Rattle.max_score.proofs.Stamps.{length_stamped}
@@ -94,5 +94,5 @@ module _ {left : List ℕ → Type 0} {impact : ℕ} {docs first now : List ℕ}
     }
 
 -- the documents of a segment are the index's
-pub segment_inside : (index : IndexData) (t s : ℕ) → IsIndex index → t < length index.terms → s < length (segments_at index.terms t) → AreDocs (length index.names) (segment_at index.terms t s).docs
+pub segment_inside : (index : IndexData) (t s : ℕ) → IsWellFormed index → t < length index.terms → s < length (segments_at index.terms t) → AreDocs (length index.names) (segment_at index.terms t s).docs
 segment_inside index t s is inside there = ((is.terms t (record { term = []; segments = [] }) inside).segments s (record { impact = 0; docs = [] }) there).docs

@@ -10,7 +10,7 @@ pub use Rattle.index_file.specs.declared.piece.Piece.{Piece}
 pub use Rattle.index_layout.specs.View.{index_postings, term_postings}
 pub use Rattle.index_model.proofs.FlatOrder.{term_kept}
 pub use Rattle.index_model.specs.Flat.{numbered_flat, numbered_from, segment_entries, term_entries}
-pub use Rattle.index_model.specs.Index.{FallsTo, IndexData, IsIndex, IsSegment, IsTerm, SegmentData, TermData}
+pub use Rattle.index_model.specs.Index.{FallsTo, IndexData, IsWellFormed, IsSegment, IsTerm, SegmentData, TermData}
 pub use Rattle.index_model.specs.Querying.{query_segments, query_segments_at, query_segments_from, segments_at}
 pub use Rattle.jass_base.specs.Gaps.{AreDocs}
 pub use Rattle.jass_base.specs.declared.answer.Grade.{Grade}

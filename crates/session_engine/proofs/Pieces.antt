@@ -1,6 +1,6 @@
 -- A segment that is scored piece by piece.
 use Rattle.std.proofs.Common.{◌≡◌, ℕ, ◌+◌, ◌<◌, ◌≤◌, List, [], ◌∷◌, ◌++◌, length, refl, sym, ap, ◌∙◌, arith, length-append}
-use Rattle.session_engine.proofs.Below.{PoolView, LeavesPool, Piece, HandsOut, piece_count, piece_docs, segment_at, IndexData, IsIndex, segments_at, AreDocs, added, Scores, AreScoresOf, ScoresStand, own_chain, own_view, scores_of}
+use Rattle.session_engine.proofs.Below.{PoolView, LeavesPool, Piece, HandsOut, piece_count, piece_docs, segment_at, IndexData, IsWellFormed, segments_at, AreDocs, added, Scores, AreScoresOf, ScoresStand, own_chain, own_view, scores_of}
 use Rattle.session_engine.proofs.PartlyScored.{AreScoredBut, all_scored, more_scored, none_scored}
 
 -- some documents of a segment have their weight, and the rest is left to hand out
@@ -63,5 +63,5 @@ module _ {left : List ℕ → Type 0} {weight : ℕ} {docs : List ℕ} {first : 
     }
 
 -- the documents of a segment are the index's
-pub segment_inside : (index : IndexData) (t s : ℕ) → IsIndex index → t < length index.terms → s < length (segments_at index.terms t) → AreDocs (length index.names) (segment_at index.terms t s).docs
+pub segment_inside : (index : IndexData) (t s : ℕ) → IsWellFormed index → t < length index.terms → s < length (segments_at index.terms t) → AreDocs (length index.names) (segment_at index.terms t s).docs
 segment_inside index t s is inside there = ((is.terms t (record { term = []; segments = [] }) inside).segments s (record { impact = 0; docs = [] }) there).docs

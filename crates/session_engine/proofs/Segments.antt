@@ -1,6 +1,6 @@
 -- The heads of a query's segments, arranged, name the segments of its plan.
 use Rattle.shared_lemmas.proofs.Common.{◌≡◌, ℕ, zero, suc, ◌+◌, ◌*◌, ◌<◌, ◌≤◌, List, [], ◌∷◌, ◌++◌, map, length, get_or, refl, sym, ap, ap₂, ◌∙◌, subst, arith, inl, All, AllByRecursion, nat_cmp, ordering_then, map-append, All-from_recursion, recursion_from_All}
-use Rattle.session_engine.proofs.Below.{QueryTerm, PlanSegment, sorted, plan_cmp, AreTerms, SegmentData, TermData, IndexData, IsSegment, IsTerm, IsIndex, FallsTo, segments_at, query_segments_at, query_segments_from, query_segments, term_kept, PlanEntry, PlanHead, AreHeads, Fall, entry_of}
+use Rattle.session_engine.proofs.Below.{QueryTerm, PlanSegment, sorted, plan_cmp, AreTerms, SegmentData, TermData, IndexData, IsSegment, IsTerm, IsWellFormed, FallsTo, segments_at, query_segments_at, query_segments_from, query_segments, term_kept, PlanEntry, PlanHead, AreHeads, Fall, entry_of}
 use Rattle.session_engine.proofs.Below.{entry_cmp, plan_with, shape, entry_shape, all_sorted, sorted_map_where}
 use Rattle.shared_lemmas.proofs.Pairs.{Pairs, pairs_by_places, pairs_append}
 use Rattle.shared_lemmas.proofs.Lists.{all_weaker, all_append}
@@ -116,24 +116,24 @@ module _ (index : IndexData) (all : List QueryTerm) where
       let count = h.0.count in
       ap₂ (λ x xs. x ∷ xs) (λ i. record { term_place = e.term_place; weight = e.weight; size = sym count i }) (shapes es h.1)
 
-pub entries_named : (index : IndexData) (terms : List QueryTerm) → IsIndex index → AreTerms terms → All (λ (n : QueryTerm). n.term < length index.terms) terms
+pub entries_named : (index : IndexData) (terms : List QueryTerm) → IsWellFormed index → AreTerms terms → All (λ (n : QueryTerm). n.term < length index.terms) terms
     → AllByRecursion (NamesSegment index terms) (map (entry_of terms) (query_heads index terms))
 entries_named index terms is are known = names_from index terms (length index.names) 0 terms (λ i d. ap (λ n. get_or terms n d) (omega arith)) (omega arith)
     (recursion_from_All (λ (n : QueryTerm). n.term < length index.terms) terms known) (recursion_from_All (λ (n : QueryTerm). 1 ≤ n.times) terms are.named)
     (recursion_from_All (IsTerm (length index.names)) index.terms is.terms)
 
-pub arranged_named : (index : IndexData) (terms : List QueryTerm) → IsIndex index → AreTerms terms → All (λ (n : QueryTerm). n.term < length index.terms) terms
+pub arranged_named : (index : IndexData) (terms : List QueryTerm) → IsWellFormed index → AreTerms terms → All (λ (n : QueryTerm). n.term < length index.terms) terms
     → AllByRecursion (NamesSegment index terms) (plan_with terms (query_heads index terms)).entries
 arranged_named index terms is are known = all_sorted entry_cmp (NamesSegment index terms) (map (entry_of terms) (query_heads index terms)) (entries_named index terms is are known)
 
-pub arranged_segments : (index : IndexData) (terms : List QueryTerm) → IsIndex index → AreTerms terms → All (λ (n : QueryTerm). n.term < length index.terms) terms
+pub arranged_segments : (index : IndexData) (terms : List QueryTerm) → IsWellFormed index → AreTerms terms → All (λ (n : QueryTerm). n.term < length index.terms) terms
     → sorted plan_cmp (query_segments index terms) ≡ map (segment_named index terms) (plan_with terms (query_heads index terms)).entries
 arranged_segments index terms is are known =
     ap (sorted plan_cmp) (sym (query_segments_are_from index terms 0 terms (λ i d. ap (λ n. get_or terms n d) (omega arith))))
     ∙ sorted_map_where (segment_named index terms) (NamesSegment index terms) entry_cmp plan_cmp (cmp_agrees index terms)
     (map (entry_of terms) (query_heads index terms)) (entries_named index terms is are known)
 
-pub arranged_shapes : (index : IndexData) (terms : List QueryTerm) → IsIndex index → AreTerms terms → All (λ (n : QueryTerm). n.term < length index.terms) terms
+pub arranged_shapes : (index : IndexData) (terms : List QueryTerm) → IsWellFormed index → AreTerms terms → All (λ (n : QueryTerm). n.term < length index.terms) terms
     → map shape (map (segment_named index terms) (plan_with terms (query_heads index terms)).entries) ≡ map entry_shape (plan_with terms (query_heads index terms)).entries
 arranged_shapes index terms is are known = shapes index terms (plan_with terms (query_heads index terms)).entries (arranged_named index terms is are known)
 
@@ -185,7 +185,7 @@ fall_from limit d term_place (named ∷ query) terms many h =
     (heads_are_from limit d (suc term_place) query terms (omega (arith, many)) h)) here
     (heads_are_at limit d term_place 0 (segments_at terms named.term) (omega (arith, many)) (segments_of (record { names = []; terms = terms }) [] d terms named.term h)))
 
-pub heads_are : (index : IndexData) (terms : List QueryTerm) → IsIndex index → AreHeads terms (query_heads index terms)
+pub heads_are : (index : IndexData) (terms : List QueryTerm) → IsWellFormed index → AreHeads terms (query_heads index terms)
 heads_are index terms is =
     let d = length index.names in
     let each = recursion_from_All (IsTerm d) index.terms is.terms in

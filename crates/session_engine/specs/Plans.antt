@@ -7,7 +7,7 @@ use Rattle.ranking_model.specs.declared.plan_segment.PlanSegment.{PlanSegment}
 use Rattle.ranking_model.specs.declared.plan.QueryPlan.{QueryPlan}
 use Rattle.ranking_model.specs.Plan.{plan_of, size_of_first}
 use Rattle.ranking_model.specs.Postings.{AreTerms}
-use Rattle.index_model.specs.Index.{SegmentData, TermData, IndexData, IsIndex}
+use Rattle.index_model.specs.Index.{SegmentData, TermData, IndexData, IsWellFormed}
 use Rattle.index_model.specs.Flat.{numbered_flat}
 use Rattle.index_model.specs.Querying.{segments_at}
 use Rattle.index_file.specs.Places.{segment_at}
@@ -79,7 +79,7 @@ pub record NamesSegment (index : IndexData) (terms : List QueryTerm) (entry : Pl
 
 -- the plan of a query with known terms over the index has this entry at a place
 pub record HasEntry (index : IndexData) (terms : List QueryTerm) (n : ℕ) (entry : PlanEntry) : Type 0 where
-  pub is_index : IsIndex index
+  pub is_well_formed : IsWellFormed index
   pub named : AreTerms terms
   pub known : AreKnown index terms
   pub at : slice_get (plan_with terms (query_heads index terms)).entries n ≡ Some entry

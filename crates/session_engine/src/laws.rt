@@ -11,7 +11,7 @@ ghost use Rattle.ranking_model.specs.Promises.{IsPromised};
 ghost use Rattle.ranking_model.specs.Report.{IsReport};
 ghost use Rattle.ranking_model.specs.Scores.{added, scores_after};
 ghost use Rattle.index_model.specs.Flat.{numbered_flat};
-ghost use Rattle.index_model.specs.Index.{IndexData, IsIndex};
+ghost use Rattle.index_model.specs.Index.{IndexData, IsWellFormed};
 ghost use Rattle.index_file.specs.Sources.{IsSearchable};
 ghost use Rattle.segment_plan.specs.declared.entry.PlanEntry.{PlanEntry};
 ghost use Rattle.segment_plan.specs.Entries.{AreHeads, plan_with};
@@ -43,17 +43,17 @@ pub fn a_session_plan_names_its_segments()
     ensures docs { (index : IndexData) (terms : List QueryTerm) →
         (session_plan index terms).docs ≡ length index.names }
     ensures heads { (index : IndexData) (terms : List QueryTerm) →
-        IsIndex index → AreTerms terms → AreKnown index terms →
+        IsWellFormed index → AreTerms terms → AreKnown index terms →
         AreHeads terms (query_heads index terms) }
     ensures segments { (index : IndexData) (terms : List QueryTerm) →
-        IsIndex index → AreTerms terms → AreKnown index terms →
+        IsWellFormed index → AreTerms terms → AreKnown index terms →
         (session_plan index terms).segments
         ≡ map (segment_named index terms) (plan_with terms (query_heads index terms)).entries }
     ensures names { (index : IndexData) (terms : List QueryTerm) →
-        IsIndex index → AreTerms terms → AreKnown index terms →
+        IsWellFormed index → AreTerms terms → AreKnown index terms →
         All (NamesSegment index terms) (plan_with terms (query_heads index terms)).entries }
     ensures shape { (index : IndexData) (terms : List QueryTerm) →
-        IsIndex index → AreTerms terms → AreKnown index terms →
+        IsWellFormed index → AreTerms terms → AreKnown index terms →
         HasShape (plan_with terms (query_heads index terms)) (session_plan index terms) }
 {
     a_plan_has_the_segments_of_its_postings();
@@ -84,7 +84,7 @@ pub fn one_entry_more_is_scored()
 #[tactic(auto, unfolding(crate::specs::Plans::session_plan))]
 pub fn nothing_is_scored_at_first()
     ensures prefix { (index : IndexData) (terms : List QueryTerm) →
-        IsIndex index → AreTerms terms → AreKnown index terms →
+        IsWellFormed index → AreTerms terms → AreKnown index terms →
         prefix_within 0 (session_plan index terms).segments ≡ 0 }
     ensures scores { (index : IndexData) (terms : List QueryTerm) →
         scores_after 0 (session_plan index terms) ≡ replicate (length index.names) 0 }

@@ -1,11 +1,11 @@
 use Rattle.shared_lemmas.proofs.Common.{◌≤◌, length, AllByRecursion, recursion_from_All}
 use Rattle.shared_lemmas.proofs.Lists.{all_weaker}
-use Rattle.index_model.specs.Index.{SegmentData, IndexData, IsSegment, IsTerm, IsIndex}
+use Rattle.index_model.specs.Index.{SegmentData, IndexData, IsSegment, IsTerm, IsWellFormed}
 use Rattle.index_model.proofs.FlatOrder.{bytes_flat, numbers_flat}
 use Rattle.index_model.proofs.Numbers.{HasDocuments, terms_are_texts, numbered_is}
 use Rattle.index_model.proofs.laws.the_flat_list_is_flat.Goals as goal
 
-have : (index : IndexData) → IsIndex index → AllByRecursion HasDocuments index.terms
+have : (index : IndexData) → IsWellFormed index → AllByRecursion HasDocuments index.terms
 have index is =
     let d = length index.names in
     all_weaker (IsTerm d) HasDocuments

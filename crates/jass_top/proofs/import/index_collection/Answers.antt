@@ -1,5 +1,5 @@
 use Rattle.std.proofs.Common.{◌≡◌, ℕ, List, [], ◌∷◌, length, map, refl, sym, ap, ◌∙◌, arith}
-use Rattle.jass_top.proofs.Below.{DocRecord, DocData, collection_data, doc_data, index_of, index_with, index_data}
+use Rattle.jass_top.proofs.Below.{DocRecord, DocData, collection_data, doc_data, index_of, index_with, index_data, well_formed}
 use Rattle.jass_top.proofs.Sizes.{flat_size, index_size}
 use Rattle.jass_top.proofs.import.index_collection.Goals as goal
 
@@ -10,7 +10,7 @@ names_of (d ∷ docs) = ap (λ (names : List (List ℕ)). d.name ∷ names) (nam
 pub returns-in-Ok-clause-made : goal.returns-in-Ok-clause-made
 returns-in-Ok-clause-made c =
     let made = index_data c.in-Ok.index in
-    sym (c.an_index_is_that_of_its_flat_list.ensures made (c.indexes_in_memory_are_indexes.ensures.index c.in-Ok.index c.impacts_are_small.ensures))
+    sym (c.an_index_is_that_of_its_flat_list.ensures made (well_formed made (c.indexes_in_memory_are_indexes.ensures.index c.in-Ok.index c.impacts_are_small.ensures)))
     ∙ ap (λ flat. index_with made.names flat) c.in-Ok.ensures.flat
     ∙ ap (λ names. index_with names (index_of (collection_data c.args.collection.now) c.args.rule c.args.bits)) (c.in-Ok.ensures.names ∙ sym (names_of c.args.collection.now.docs))
 

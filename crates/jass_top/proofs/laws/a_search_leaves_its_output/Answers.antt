@@ -7,10 +7,10 @@ use Rattle.jass_top.proofs.laws.a_search_leaves_its_output.Goals as goal
 
 pub returns-clause-at_stops : goal.returns-clause-at_stops
 returns-clause-at_stops c = λ index search queries is. searched c.a_prefix_has_one_report.ensures.report c.reports_keep_their_promises.ensures index
-    (c.the_flat_list_is_flat.ensures.numbers index is.is_index) search queries
+    (c.the_flat_list_is_flat.ensures.numbers index is.is_well_formed) search queries
 
 pub returns-clause-within_budgets : goal.returns-clause-within_budgets
 returns-clause-within_budgets c = λ index k budgets tag queries is.
     subst (λ (output : Output). IsSearchOutput (search_within k budgets tag) (record { index = index; queries = queries }) output)
     (same_output c.the_prefix_is_the_longest.ensures.fits c.each_budget_has_its_prefix.ensures.many index k budgets tag (without_lines queries))
-    (searched c.a_prefix_has_one_report.ensures.report c.reports_keep_their_promises.ensures index (c.the_flat_list_is_flat.ensures.numbers index is.is_index) (search_within k budgets tag) queries)
+    (searched c.a_prefix_has_one_report.ensures.report c.reports_keep_their_promises.ensures index (c.the_flat_list_is_flat.ensures.numbers index is.is_well_formed) (search_within k budgets tag) queries)

@@ -4,6 +4,7 @@ use Rattle.ranking_model.specs.Limits.{IsSmall}
 use Rattle.ranking_model.specs.Order.{sorted}
 use Rattle.ranking_model.specs.Plan.{plan_cmp, plan_of, plan_segments}
 use Rattle.ranking_model.specs.Postings.{weighted_postings}
+use Rattle.index_model.proofs.WellFormed.{well_formed}
 use Rattle.index_model.specs.Flat.{numbered_flat}
 use Rattle.index_model.specs.Querying.{query_segments}
 use Rattle.run_audit.specs.Private.Reading.{plan_postings}
@@ -30,8 +31,8 @@ returns-clause-small g c =
     let index = c.args.index.now.index in
     let is = c.is_checked.ensures in
     let made : c.from_vec.result ≡ plan_segments (weighted_postings (numbered_flat index) c.args.terms.now)
-    = c.from_vec.ensures ∙ c.in_ok-arrange.ensures ∙ ap (sorted plan_cmp) c.in_ok-segments.ensures.segments ∙ sym (c.the_plan_has_the_named_segments.ensures index c.args.terms.now is.index c.requires.terms) in
-    let small = c.plans_are_small.ensures (length index.names) (numbered_flat index) c.args.terms.now (c.the_flat_list_is_flat.ensures.numbers index is.index) c.requires.terms c.in_ok-segments.ensures.times
+    = c.from_vec.ensures ∙ c.in_ok-arrange.ensures ∙ ap (sorted plan_cmp) c.in_ok-segments.ensures.segments ∙ sym (c.the_plan_has_the_named_segments.ensures index c.args.terms.now (well_formed index is.index) c.requires.terms) in
+    let small = c.plans_are_small.ensures (length index.names) (numbered_flat index) c.args.terms.now (c.the_flat_list_is_flat.ensures.numbers index (well_formed index is.index)) c.requires.terms c.in_ok-segments.ensures.times
     (subst (λ (n : ℕ). n ≤ 2 ^ 29) (sym (flat_is_long index)) is.postings) in
     subst IsSmall (λ i. record { docs = sym c.docs.ensures i; terms = length c.args.terms.now; segments = sym made i }) small
 

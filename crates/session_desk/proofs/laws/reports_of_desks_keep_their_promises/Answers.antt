@@ -8,5 +8,5 @@ use Rattle.session_desk.proofs.laws.reports_of_desks_keep_their_promises.Goals a
 pub returns-clause-promised : goal.returns-clause-promised
 unfolding session_plan session_report
 returns-clause-promised c index session is =
-    c.reports_keep_their_promises.ensures (length index.names) (scored_prefix index session) session.k (numbered_flat index) session.query.terms (session_report index session) (c.the_flat_list_is_flat.ensures.numbers index is.is_index)
+    c.reports_keep_their_promises.ensures (length index.names) (scored_prefix index session) session.k (numbered_flat index) session.query.terms (session_report index session) (c.the_flat_list_is_flat.ensures.numbers index is.is_well_formed)
     (c.a_prefix_has_one_report.ensures.report (scored_prefix index session) session.k (plan_of_session index session))

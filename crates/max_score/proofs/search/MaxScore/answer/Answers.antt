@@ -54,7 +54,7 @@ returns-clause-hits g c =
     let plan = plan_of (length index.names) (numbered_flat index) c.args.self.now.terms in
     finished index c.self.inside.docs c.args.self.now.terms plan c.read_lists.new.lists docs named c.read_lists.ensures.read
     (c.a_plan_has_the_segments_of_its_postings.ensures.docs (length index.names) (numbered_flat index) c.args.self.now.terms)
-    (c.a_plan_has_the_segments_of_its_postings.ensures.segments (length index.names) (numbered_flat index) c.args.self.now.terms ∙ c.the_plan_has_the_named_segments.ensures index c.args.self.now.terms c.is_searchable.ensures.is_index c.requires.terms)
+    (c.a_plan_has_the_segments_of_its_postings.ensures.segments (length index.names) (numbered_flat index) c.args.self.now.terms ∙ c.the_plan_has_the_named_segments.ensures index c.args.self.now.terms c.is_searchable.ensures.is_well_formed c.requires.terms)
     c.args.self.now.k c.walk.new.best c.finish.new.self.hits.items (c.walk.ensures.k ∙ asked)
     (subst (λ (lists : List TermList). HasMet c.self.inside.docs lists c.self.inside.docs c.walk.new.best) shown c.walk.ensures.met) c.finish.ensures.first
 

@@ -12,7 +12,7 @@ overflow_add-before g c =
     let s = c.self.inside in let index = g.S.Source.index c.args.source.now in let plan = session_plan index s.query.terms in
     let stands = subst (λ (v : SessionView). SessionStands v index c.args.pool.now) (sym c.self.view_is) c.requires.stands in
     let are : AreTerms s.query.terms = record { few = s.query.few; named = s.query.named; differ = s.query.differ } in
-    let shape = subst (λ (p : PlanView). HasShape p plan) (sym stands.planned.arranged) (c.a_session_plan_names_its_segments.ensures.shape index s.query.terms c.is_searchable.ensures.is_index are stands.planned.known) in
+    let shape = subst (λ (p : PlanView). HasShape p plan) (sym stands.planned.arranged) (c.a_session_plan_names_its_segments.ensures.shape index s.query.terms c.is_searchable.ensures.is_well_formed are stands.planned.known) in
     let paid : s.report.postings ≡ size_of_first s.scored plan.segments = ap (λ (r : Report). r.postings) stands.report in
     let low : s.granted ≤ c.granted_with-self-inside.result = omega (arith, c.self.ranges, c.granted_with-self-inside.ensures) in
     let grown : s.scored + c.within-further.result ≡ prefix_within c.granted_with-self-inside.result plan.segments
@@ -30,7 +30,7 @@ returns-then-further-eq0-clause-stands g c =
     let s = c.self.inside in let index = g.S.Source.index c.args.source.now in let plan = session_plan index s.query.terms in
     let stands = subst (λ (v : SessionView). SessionStands v index c.args.pool.now) (sym c.self.view_is) c.requires.stands in
     let are : AreTerms s.query.terms = record { few = s.query.few; named = s.query.named; differ = s.query.differ } in
-    let shape = subst (λ (p : PlanView). HasShape p plan) (sym stands.planned.arranged) (c.a_session_plan_names_its_segments.ensures.shape index s.query.terms c.is_searchable.ensures.is_index are stands.planned.known) in
+    let shape = subst (λ (p : PlanView). HasShape p plan) (sym stands.planned.arranged) (c.a_session_plan_names_its_segments.ensures.shape index s.query.terms c.is_searchable.ensures.is_well_formed are stands.planned.known) in
     let paid : s.report.postings ≡ size_of_first s.scored plan.segments = ap (λ (r : Report). r.postings) stands.report in
     let low : s.granted ≤ c.granted_with-self-inside.result = omega (arith, c.self.ranges, c.granted_with-self-inside.ensures) in
     let grown : s.scored + c.within-further.result ≡ prefix_within c.granted_with-self-inside.result plan.segments
@@ -50,7 +50,7 @@ returns-clause-stands g c =
     let s = c.self.inside in let index = g.S.Source.index c.args.source.now in let plan = session_plan index s.query.terms in
     let stands = subst (λ (v : SessionView). SessionStands v index c.args.pool.now) (sym c.self.view_is) c.requires.stands in
     let are : AreTerms s.query.terms = record { few = s.query.few; named = s.query.named; differ = s.query.differ } in
-    let shape = subst (λ (p : PlanView). HasShape p plan) (sym stands.planned.arranged) (c.a_session_plan_names_its_segments.ensures.shape index s.query.terms c.is_searchable.ensures.is_index are stands.planned.known) in
+    let shape = subst (λ (p : PlanView). HasShape p plan) (sym stands.planned.arranged) (c.a_session_plan_names_its_segments.ensures.shape index s.query.terms c.is_searchable.ensures.is_well_formed are stands.planned.known) in
     let paid : s.report.postings ≡ size_of_first s.scored plan.segments = ap (λ (r : Report). r.postings) stands.report in
     let low : s.granted ≤ c.granted_with-self-inside.result = omega (arith, c.self.ranges, c.granted_with-self-inside.ensures) in
     let grown : s.scored + c.within-further.result ≡ prefix_within c.granted_with-self-inside.result plan.segments
@@ -74,7 +74,7 @@ returns-clause-steps g c =
     let s = c.self.inside in let index = g.S.Source.index c.args.source.now in let plan = session_plan index s.query.terms in
     let stands = subst (λ (v : SessionView). SessionStands v index c.args.pool.now) (sym c.self.view_is) c.requires.stands in
     let are : AreTerms s.query.terms = record { few = s.query.few; named = s.query.named; differ = s.query.differ } in
-    let shape = subst (λ (p : PlanView). HasShape p plan) (sym stands.planned.arranged) (c.a_session_plan_names_its_segments.ensures.shape index s.query.terms c.is_searchable.ensures.is_index are stands.planned.known) in
+    let shape = subst (λ (p : PlanView). HasShape p plan) (sym stands.planned.arranged) (c.a_session_plan_names_its_segments.ensures.shape index s.query.terms c.is_searchable.ensures.is_well_formed are stands.planned.known) in
     let paid : s.report.postings ≡ size_of_first s.scored plan.segments = ap (λ (r : Report). r.postings) stands.report in
     let terms = c.as_slice-terms.ensures in
     let more : size_of_first s.scored plan.segments + c.score_entries-more.result ≡ size_of_first (s.scored + c.within-further.result) plan.segments

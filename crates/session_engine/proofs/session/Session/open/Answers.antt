@@ -13,7 +13,7 @@ returns-in-Ok-new-clause-stands g c =
     let sums = made.scores ∙ ap (λ n. replicate n 0) c.docs.ensures ∙ sym (c.nothing_is_scored_at_first.ensures.scores index terms) in
     record {
       planned = c.in-Ok.ensures;
-      prefix = sym (c.nothing_is_scored_at_first.ensures.prefix index terms c.is_searchable.ensures.is_index are c.requires.known);
+      prefix = sym (c.nothing_is_scored_at_first.ensures.prefix index terms c.is_searchable.ensures.is_well_formed are c.requires.known);
       scored = record {
         stand = made.stand;
         docs = made.docs ∙ c.docs.ensures ∙ sym (c.a_session_plan_names_its_segments.ensures.docs index terms);
@@ -24,7 +24,7 @@ returns-in-Ok-new-clause-stands g c =
       settled = made.settled;
       asked = made.k;
       report = c.report_at-report.ensures (session_plan index terms)
-          (subst (λ (p : PlanView). HasShape p (session_plan index terms)) (sym c.in-Ok.ensures.arranged) (c.a_session_plan_names_its_segments.ensures.shape index terms c.is_searchable.ensures.is_index are c.requires.known)) sums;
+          (subst (λ (p : PlanView). HasShape p (session_plan index terms)) (sym c.in-Ok.ensures.arranged) (c.a_session_plan_names_its_segments.ensures.shape index terms c.is_searchable.ensures.is_well_formed are c.requires.known)) sums;
     }
 
 pub returns-in-Err-clause-refused : goal.returns-in-Err-clause-refused
