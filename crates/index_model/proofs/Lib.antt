@@ -1,6 +1,11 @@
 pub mod FlatOrder
 pub mod Groups
+pub mod Merged
 pub mod NamedSegments
 pub mod Numbers
+pub mod Regrouped
+pub mod UnionKept
+pub mod UnionSegments
+pub mod Unioned
 pub mod Views
 pub mod WellFormed

@@ -33,3 +33,22 @@ two_terms = record {
   names = codes "d0" ∷ codes "d1" ∷ codes "d2" ∷ codes "d3" ∷ [];
   terms = term (codes "cat") (term_segment 3 (0 ∷ []) ∷ term_segment 1 (1 ∷ 3 ∷ []) ∷ []) ∷ term (codes "dog") (term_segment 3 (2 ∷ []) ∷ term_segment 2 (1 ∷ []) ∷ []) ∷ [];
 }
+
+-- two documents with two terms, of which the first example has one
+abbrev pub more_terms : IndexData
+more_terms = record {
+  names = codes "e0" ∷ codes "e1" ∷ [];
+  terms = term (codes "a") (term_segment 9 (1 ∷ []) ∷ term_segment 2 (0 ∷ []) ∷ []) ∷ term (codes "cat") (term_segment 5 (0 ∷ 1 ∷ []) ∷ []) ∷ [];
+}
+
+-- the first example and these as one
+abbrev pub both_as_one : IndexData
+both_as_one = record {
+  names = codes "d0" ∷ codes "d1" ∷ codes "d2" ∷ codes "e0" ∷ codes "e1" ∷ [];
+  terms = term (codes "a") (term_segment 9 (0 ∷ 4 ∷ []) ∷ term_segment 5 (1 ∷ []) ∷ term_segment 2 (3 ∷ []) ∷ term_segment 1 (2 ∷ []) ∷ [])
+      ∷ term (codes "cat") (term_segment 5 (3 ∷ 4 ∷ []) ∷ []) ∷ [];
+}
+
+-- no documents, and no terms
+abbrev pub nothing : IndexData
+nothing = record { names = []; terms = [] }

@@ -66,3 +66,13 @@ union_segments bytes base (p ∷ parts) = merged_segments (map (raised_segment b
 abbrev pub union_docs : List ℕ → ℕ → ℕ → List IndexData → List ℕ
 union_docs bytes impact base [] = []
 union_docs bytes impact base (p ∷ parts) = map (λ d. base + d) (docs_of impact (segments_of bytes p.terms)) ++ union_docs bytes impact (base + length p.names) parts
+
+-- the bytes of the terms of parts, which rise
+abbrev pub union_texts : List IndexData → List (List ℕ)
+union_texts [] = []
+union_texts (p ∷ parts) = merged (slice_cmp nat_cmp) (λ (text again : List ℕ). text) (map (λ (t : TermData). t.term) p.terms) (union_texts parts)
+
+-- the impacts that parts have of a term, which fall
+abbrev pub union_impacts : List ℕ → List IndexData → List ℕ
+union_impacts bytes [] = []
+union_impacts bytes (p ∷ parts) = merged (λ m n. nat_cmp n m) (λ (impact again : ℕ). impact) (map (λ (s : SegmentData). s.impact) (segments_of bytes p.terms)) (union_impacts bytes parts)
