@@ -15,7 +15,7 @@ use Rattle.ranking_model.specs.Flat.{entry_cmp}
 use Rattle.ranking_model.specs.Order.{sorted}
 use Rattle.ranking_model.proofs.Sorting.{length_sorted}
 use Rattle.index_model.specs.Index.{SegmentData, TermData, IndexData, IsTerm, IsWellFormed, FallsTo, RisesTo}
-use Rattle.index_model.specs.Flat.{flat_of}
+use Rattle.index_model.specs.Flat.{flat_of, flat_of_terms, segment_entries, term_entries}
 use Rattle.index_model.specs.Grouping.{index_with}
 use Rattle.index_model.specs.Querying.{segments_at}
 use Rattle.index_model.specs.Unions.{raised_segment, raised_term, raised_entries, union_names, union_entries, union_of}
@@ -257,3 +257,35 @@ names_length (p ∷ parts) = length-append p.names (union_names parts) ∙ ap (�
 pub union_documents : (parts : List IndexData) → length (union_of parts).names ≡ sum_by (λ (p : IndexData). length p.names) parts
 unfolding union_of index_with
 union_documents parts = names_length parts
+
+-- the same by terms and segments
+
+term_size : TermData → ℕ
+term_size t = sum_by (λ (s : SegmentData). length s.docs) t.segments
+
+segments_size : (term : List ℕ) (segments : List SegmentData) → length (term_entries term segments) ≡ sum_by (λ (s : SegmentData). length s.docs) segments
+segments_size term [] = refl
+segments_size term (s ∷ segments) =
+    length-append (segment_entries term s) (term_entries term segments)
+    ∙ ap₂ (λ (m n : ℕ). m + n) (length-map s.docs (λ (doc : ℕ). record { term = term; doc = doc; impact = s.impact })) (segments_size term segments)
+    ∙ sym (sum_by-cons (λ (s : SegmentData). length s.docs) s segments)
+
+terms_size : (terms : List TermData) → length (flat_of_terms terms) ≡ sum_by term_size terms
+unfolding term_size
+terms_size [] = refl
+terms_size (t ∷ terms) =
+    length-append (term_entries t.term t.segments) (flat_of_terms terms)
+    ∙ ap₂ (λ (m n : ℕ). m + n) (segments_size t.term t.segments) (terms_size terms)
+    ∙ sym (sum_by-cons term_size t terms)
+
+parts_size : (parts : List IndexData) → sum_by (λ (p : IndexData). length (flat_of p)) parts ≡ sum_by (λ (p : IndexData). sum_by term_size p.terms) parts
+parts_size [] = refl
+parts_size (p ∷ parts) =
+    sum_by-cons (λ (p : IndexData). length (flat_of p)) p parts
+    ∙ ap₂ (λ (m n : ℕ). m + n) (terms_size p.terms) (parts_size parts)
+    ∙ sym (sum_by-cons (λ (p : IndexData). sum_by term_size p.terms) p parts)
+
+pub union_sizes : (parts : List IndexData)
+    → sum_by (λ (t : TermData). sum_by (λ (s : SegmentData). length s.docs) t.segments) (union_of parts).terms ≡ sum_by (λ (p : IndexData). sum_by (λ (t : TermData). sum_by (λ (s : SegmentData). length s.docs) t.segments) p.terms) parts
+unfolding term_size
+union_sizes parts = sym (terms_size (union_of parts).terms) ∙ union_postings parts ∙ parts_size parts

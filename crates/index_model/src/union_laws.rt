@@ -57,6 +57,10 @@ pub fn a_union_has_the_entries_of_its_parts()
         flat_of (union_of parts) ≡ sorted (entry_cmp (slice_cmp nat_cmp)) (union_entries 0 parts) }
     ensures postings { (parts : List IndexData) →
         length (flat_of (union_of parts)) ≡ sum_by (λ (p : IndexData). length (flat_of p)) parts }
+    ensures sizes { (parts : List IndexData) →
+        sum_by (λ (t : TermData). sum_by (λ (s : SegmentData). length s.docs) t.segments) (union_of parts).terms
+        ≡ sum_by (λ (p : IndexData). sum_by (λ (t : TermData). sum_by (λ (s : SegmentData). length s.docs) t.segments)
+        p.terms) parts }
     ensures documents { (parts : List IndexData) →
         length (union_of parts).names ≡ sum_by (λ (p : IndexData). length p.names) parts }
 {}
