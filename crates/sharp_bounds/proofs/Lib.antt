@@ -6,3 +6,4 @@ pub mod Sharp
 pub mod MaskRows
 pub mod Out
 pub mod Telling
+pub mod Marks

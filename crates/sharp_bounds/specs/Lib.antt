@@ -4,4 +4,5 @@ pub mod Out
 pub mod Rule
 pub mod Examples
 pub mod Masks
+pub mod Marks
 pub mod Private

@@ -5,7 +5,10 @@
 
 pub mod examples;
 pub mod laws;
+pub mod mask_laws;
 mod masks;
 pub mod out_laws;
+mod unseen;
 
 pub use masks::Masks;
+pub use unseen::unseen_sum;
