@@ -1,12 +1,13 @@
 -- Masks that are marked at each posting tell who has a posting, and the next weights of the other terms add up to what is unseen.
 use Rattle.shared_lemmas.proofs.Common.{◌≡◌, ◌≢◌, ℕ, zero, suc, ◌+◌, ◌-◌, ◌/◌, ◌^◌, ◌<◌, ◌≤◌, ◌==◌, ◌&&◌, ◌||◌, max, bit_or, bit_and, List, [], ◌∷◌, ◌++◌, length, map, filter, take, drop, get_or, set, replicate, sum_by, slice_get, Some, Bool, true, false, not, cond, refl, sym, ap, subst, ◌∙◌, arith, inl, inr, ◌⊎◌, nat_tests}
-use Rattle.shared_lemmas.proofs.Common.{AllByRecursion, list_any, range_with_len, cases_Bool, cases_eq, eq-eqb, ne_eqb, sum_by-cons, get_or-map-range_with_len, length-map-range_with_len, length-range_with_len, list_any-append, take_more, drop-cons, slice_get_read, slice_get_within, get_or_from_slice_get, get_or-set_same, get_or-set_other, length-set, get_or-replicate, length-replicate, bit_at_or, bit_at-zero, bit_at-lt, fun_ext, ext_get_or, cond-true, cond-false}
+use Rattle.shared_lemmas.proofs.Common.{AllByRecursion, list_any, range_with_len, count_by, cases_Bool, cases_eq, eq-eqb, ne_eqb, sum_by-cons, get_or-map-range_with_len, length-map-range_with_len, length-range_with_len, list_any-append, take_more, drop-cons, slice_get_read, slice_get_within, get_or_from_slice_get, get_or-set_same, get_or-set_other, length-set, get_or-replicate, length-replicate, bit_at_or, bit_at-zero, bit_at-lt, fun_ext, ext_get_or, cond-true, cond-false}
 use Rattle.std.proofs.lemmas.Nat.Bits.{bit_at-pow_same, bit_at-pow_other, shr_and_one}
 use Rattle.std.specs.Int.{bit_at}
 use Rattle.ranking_model.specs.declared.plan_segment.PlanSegment.{PlanSegment}
 use Rattle.ranking_model.specs.declared.plan.QueryPlan.{QueryPlan}
 use Rattle.ranking_model.specs.Scores.{greatest, greatest_weight, bound_after}
-use Rattle.sharp_bounds.specs.Masks.{with_place}
+use Rattle.accumulator_pages.specs.Adding.{page_count, page_is_touched}
+use Rattle.sharp_bounds.specs.Masks.{HasMaskFrame, MasksView, with_place}
 use Rattle.sharp_bounds.specs.Unseen.{has_posting, unseen_bound}
 use Rattle.sharp_bounds.specs.Marks.{has_place, marked, AreMarkedTo, next_weights, unseen_sum}
 
@@ -219,3 +220,33 @@ bit_set mask place weight is = let t : has_place mask place ≡ true = eq-eqb (b
 
 pub bit_clear : (mask place weight : ℕ) → bit_and (mask / 2 ^ place) 1 ≢ 1 → weight ≡ cond (has_place mask place) 0 weight
 bit_clear mask place weight isnt = let f : has_place mask place ≡ false = ne_eqb (bit_at mask place) 1 (λ e. isnt (shr_and_one mask place ∙ e)) in rw f refl
+
+-- ---- frames
+
+worth_one : (b : Bool) → cond b 1 0 ≤ 1
+worth_one true = omega arith
+worth_one false = omega arith
+
+count_few : (p : ℕ → Bool) (from n : ℕ) → count_by p (range_with_len from n) ≤ n
+count_few p from zero = omega arith
+count_few p from (suc n) = omega (arith, sum_by-cons (λ x. cond (p x) 1 0) from (range_with_len (from + 1) n), worth_one (p from), count_few p (from + 1) n)
+
+count_less : (p : ℕ → Bool) (from n i : ℕ) → i < n → p (from + i) ≡ false → count_by p (range_with_len from n) < n
+count_less p from zero i inside none = absurd (omega (arith, inside))
+count_less p from (suc n) zero inside none = omega (arith, sum_by-cons (λ x. cond (p x) 1 0) from (range_with_len (from + 1) n), few, zero_here) where
+  few : count_by p (range_with_len (from + 1) n) ≤ n
+  few = count_few p (from + 1) n
+
+  zero_here : ◌≡◌ {A = ℕ} (cond (p from) 1 0) 0
+  zero_here = let e : from + 0 ≡ from = omega arith in ap (λ b. cond {A = ℕ} b 1 0) (subst (λ m. p m ≡ false) e none)
+count_less p from (suc n) (suc i) inside none = omega (
+  arith,
+  sum_by-cons (λ x. cond (p x) 1 0) from (range_with_len (from + 1) n),
+  worth_one (p from),
+  count_less p (from + 1) n i (omega (arith, inside)) (let e : from + suc i ≡ from + 1 + i = omega arith in subst (λ m. p m ≡ false) e none),
+)
+
+pub frame_for_each : (view : MasksView) (doc : ℕ) → page_count (length view.masks) ≤ view.frames → doc < length view.masks → HasMaskFrame view (doc / 256)
+frame_for_each view doc enough inside vacant =
+    let less = count_less (page_is_touched view.masks) 0 (page_count (length view.masks)) (doc / 256) (omega (arith, inside)) (let e : doc / 256 ≡ 0 + doc / 256 = omega arith in subst (λ m. page_is_touched view.masks m ≡ false) e vacant) in
+    omega (arith, less, enough)

@@ -1,10 +1,12 @@
 //! What masks tell that are marked at each posting. Each function does nothing of its own: its contract is the law, and
 //! a caller learns it by the call.
 
-ghost use Rattle.std.specs.Prelude.{◌≡◌, ℕ, ◌+◌, ◌<◌, Some, List, ◌++◌, length, replicate, slice_get, slice_index, slice_set};
+ghost use Rattle.std.specs.Prelude.{◌≡◌, ℕ, ◌+◌, ◌/◌, ◌<◌, ◌≤◌, Some, List, ◌++◌, length, replicate, slice_get, slice_index, slice_set};
 ghost use Rattle.ranking_model.specs.declared.plan.QueryPlan.{QueryPlan};
 ghost use Rattle.ranking_model.specs.declared.plan_segment.PlanSegment.{PlanSegment};
 ghost use Rattle.ranking_model.specs.Scores.{bound_after};
+ghost use Rattle.accumulator_pages.specs.Adding.{page_count};
+ghost use Rattle.sharp_bounds.specs.Masks.{HasMaskFrame, MasksView};
 ghost use Rattle.sharp_bounds.specs.Marks.{AreMarkedTo, marked, next_weights, unseen_sum};
 ghost use Rattle.sharp_bounds.specs.Unseen.{unseen_bound};
 
@@ -34,4 +36,10 @@ pub fn one_weight_falls_with_the_bound()
         bound_after n plan + weight
         ≡ bound_after (n + 1) plan + slice_index (next_weights n plan) segment.term_place →
         next_weights (n + 1) plan ≡ slice_set (next_weights n plan) segment.term_place weight }
+{}
+
+/// With a frame for each page of 256 documents there is always one for the next document.
+pub fn a_frame_for_each_page_is_enough()
+    ensures { (view : MasksView) (doc : ℕ) → page_count (length view.masks) ≤ view.frames →
+        doc < length view.masks → HasMaskFrame view (doc / 256) }
 {}

@@ -1,10 +1,12 @@
-ghost use Rattle.std.specs.Prelude.{◌≡◌, ◌≢◌, ℕ, ◌/◌, ◌<◌, ◌≤◌, IfOk, length, replicate, slice_index, slice_set, vec_capacity};
+ghost use Rattle.std.specs.Prelude.{◌≡◌, ◌≢◌, ℕ, ◌/◌, ◌<◌, ◌≤◌, All, IfOk, length, replicate, slice_index, slice_set, vec_capacity};
 ghost use Rattle.jass_base.specs.declared.limits.TheConstants.{MOST_DOCUMENTS};
 ghost use Rattle.accumulator_pages.specs.Adding.{page_count};
 ghost use Rattle.accumulator_pages.specs.Pages.{no_frame};
+ghost use Rattle.sharp_bounds.specs.Marks.{marked};
 ghost use Rattle.sharp_bounds.specs.Masks.{HasMaskFrame, with_place};
 ghost use Rattle.sharp_bounds.specs.Private.MaskRows.{AreRowsOf, mask_in};
 
+use crate::mask_laws::a_frame_for_each_page_is_enough;
 use jass_base::NoMemory;
 use std::alloc::Global;
 use std::marker::Model;
@@ -72,6 +74,20 @@ impl Masks {
         let row = row_of(&mut self.table, &mut self.rows, doc / PAGE_DOCS);
         let slot = (doc % PAGE_DOCS) as usize;
         self.rows[row][slot] |= 1 << place;
+    }
+
+    /// Sets the bit of a place in the masks of some documents, where there is a frame for each page.
+    pub fn mark_all(&mut self, docs: &[u32], place: u8)
+        requires inside { All (λ doc. doc < length self.old.masks) docs.now }
+        requires place { place < 64 }
+        requires frames { page_count (length self.old.masks) ≤ self.old.frames }
+        ensures masks { self.new.masks ≡ marked place docs.now self.old.masks }
+        ensures frames { self.new.frames ≡ self.old.frames }
+    {
+        a_frame_for_each_page_is_enough();
+        for doc in docs {
+            self.mark(*doc, place);
+        }
     }
 
     /// The mask of a document: bit `place` is set where it was marked with that place.
