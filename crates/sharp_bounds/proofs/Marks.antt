@@ -168,32 +168,53 @@ module _ (n : ℕ) (plan : QueryPlan) (segment : PlanSegment) (at : slice_get pl
       skipped : (segment.term_place == t) ≡ false → greatest_weight t (segment ∷ drop (n + 1) plan.segments) ≡ greatest_weight t (drop (n + 1) plan.segments)
       skipped f = rw f refl
 
+  many_weights : (m : ℕ) → length (next_weights m plan) ≡ plan.terms
+  many_weights m = length-map-range_with_len (λ term_place. greatest_weight term_place (drop m plan.segments)) 0 plan.terms
+
+  weight_at : (m t : ℕ) → t < plan.terms → get_or (next_weights m plan) t 0 ≡ greatest_weight t (drop m plan.segments)
+  weight_at m t below = get_or-map-range_with_len (λ term_place. greatest_weight term_place (drop m plan.segments)) 0 plan.terms t t 0 below (omega arith)
+
+  pub weight_falls : segment.term_place < plan.terms → bound_after n plan + get_or (next_weights (n + 1) plan) segment.term_place 0 ≡ bound_after (n + 1) plan + get_or (next_weights n plan) segment.term_place 0
+  weight_falls inside =
+      let a = weight_at n segment.term_place inside in
+      let b = weight_at (n + 1) segment.term_place inside in
+      let s = sum_but before now segment.term_place 0 plan.terms others_stay (omega arith) (omega (arith, inside)) in
+      omega (arith, a, b, s)
+
+  pub weight_least : segment.term_place < plan.terms → get_or (next_weights (n + 1) plan) segment.term_place 0 ≤ get_or (next_weights n plan) segment.term_place 0
+  weight_least inside = omega (arith, weight_at n segment.term_place inside, weight_at (n + 1) segment.term_place inside, whole) where
+    cut : drop n plan.segments ≡ segment ∷ drop (n + 1) plan.segments
+    cut =
+        let next : suc n ≡ n + 1 = omega arith in
+        drop-cons plan.segments n segment (slice_get_within plan.segments n segment at) ∙ ap (λ (s : PlanSegment). s ∷ drop (suc n) plan.segments) (get_or_from_slice_get plan.segments n segment segment at)
+        ∙ ap (λ m. segment ∷ drop m plan.segments) next
+
+    whole : now segment.term_place ≤ before segment.term_place
+    whole = subst (λ (l : List PlanSegment). now segment.term_place ≤ greatest_weight segment.term_place l) (sym cut) (more (segment.term_place == segment.term_place)) where
+      more : (b : Bool) → now segment.term_place ≤ greatest (map (λ (s : PlanSegment). s.weight) (cond b (segment ∷ filter (λ (s : PlanSegment). s.term_place == segment.term_place) (drop (n + 1) plan.segments)) (filter (λ (s : PlanSegment). s.term_place == segment.term_place) (drop (n + 1) plan.segments))))
+      more true = omega arith
+      more false = omega arith
+
   pub one_weight : (weight : ℕ) → segment.term_place < plan.terms → bound_after n plan + weight ≡ bound_after (n + 1) plan + get_or (next_weights n plan) segment.term_place 0
       → next_weights (n + 1) plan ≡ set (next_weights n plan) segment.term_place weight
   one_weight weight inside falls = ext_get_or 0 (next_weights (n + 1) plan) (set (next_weights n plan) segment.term_place weight) lengths same where
-    many : (m : ℕ) → length (next_weights m plan) ≡ plan.terms
-    many m = length-map-range_with_len (λ term_place. greatest_weight term_place (drop m plan.segments)) 0 plan.terms
-
     lengths : length (next_weights (n + 1) plan) ≡ length (set (next_weights n plan) segment.term_place weight)
-    lengths = many (n + 1) ∙ sym (length-set (next_weights n plan) segment.term_place weight ∙ many n)
-
-    read : (m t : ℕ) → t < plan.terms → get_or (next_weights m plan) t 0 ≡ greatest_weight t (drop m plan.segments)
-    read m t below = get_or-map-range_with_len (λ term_place. greatest_weight term_place (drop m plan.segments)) 0 plan.terms t t 0 below (omega arith)
+    lengths = many_weights (n + 1) ∙ sym (length-set (next_weights n plan) segment.term_place weight ∙ many_weights n)
 
     is_weight : now segment.term_place ≡ weight
     is_weight =
-        let r = read n segment.term_place inside in
+        let r = weight_at n segment.term_place inside in
         let s = sum_but before now segment.term_place 0 plan.terms others_stay (omega arith) (omega (arith, inside)) in
         omega (arith, falls, r, s)
 
     same : (t : ℕ) → t < length (next_weights (n + 1) plan) → get_or (next_weights (n + 1) plan) t 0 ≡ get_or (set (next_weights n plan) segment.term_place weight) t 0
     same t below = by (cases_eq t segment.term_place) where
       within : t < plan.terms
-      within = omega (arith, below, many (n + 1))
+      within = omega (arith, below, many_weights (n + 1))
 
       by : (t ≡ segment.term_place) ⊎ (t ≡ segment.term_place → ⊥) → get_or (next_weights (n + 1) plan) t 0 ≡ get_or (set (next_weights n plan) segment.term_place weight) t 0
-      by (inl is) = read (n + 1) t within ∙ ap now is ∙ is_weight ∙ sym (ap (λ i. get_or (set (next_weights n plan) segment.term_place weight) i 0) is ∙ get_or-set_same (next_weights n plan) segment.term_place weight 0 (omega (arith, inside, many n)))
-      by (inr apart) = read (n + 1) t within ∙ sym (get_or-set_other (next_weights n plan) segment.term_place t weight 0 apart ∙ read n t within ∙ others_stay t apart)
+      by (inl is) = weight_at (n + 1) t within ∙ ap now is ∙ is_weight ∙ sym (ap (λ i. get_or (set (next_weights n plan) segment.term_place weight) i 0) is ∙ get_or-set_same (next_weights n plan) segment.term_place weight 0 (omega (arith, inside, many_weights n)))
+      by (inr apart) = weight_at (n + 1) t within ∙ sym (get_or-set_other (next_weights n plan) segment.term_place t weight 0 apart ∙ weight_at n t within ∙ others_stay t apart)
 
 -- ---- a sum place by place
 

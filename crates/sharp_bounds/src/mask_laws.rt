@@ -36,6 +36,14 @@ pub fn one_weight_falls_with_the_bound()
         bound_after n plan + weight
         ≡ bound_after (n + 1) plan + slice_index (next_weights n plan) segment.term_place →
         next_weights (n + 1) plan ≡ slice_set (next_weights n plan) segment.term_place weight }
+    ensures falls { (n : ℕ) (plan : QueryPlan) (segment : PlanSegment) →
+        slice_get plan.segments n ≡ Some segment → segment.term_place < plan.terms →
+        bound_after n plan + slice_index (next_weights (n + 1) plan) segment.term_place
+        ≡ bound_after (n + 1) plan + slice_index (next_weights n plan) segment.term_place }
+    ensures least { (n : ℕ) (plan : QueryPlan) (segment : PlanSegment) →
+        slice_get plan.segments n ≡ Some segment → segment.term_place < plan.terms →
+        slice_index (next_weights (n + 1) plan) segment.term_place
+        ≤ slice_index (next_weights n plan) segment.term_place }
 {}
 
 /// With a frame for each page of 256 documents there is always one for the next document.
