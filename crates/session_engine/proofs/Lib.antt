@@ -10,3 +10,4 @@ pub mod Pieces
 pub mod Reports
 pub mod First
 pub mod Scored
+pub mod Marking

@@ -1,7 +1,7 @@
 //! Laws of sessions, and of the plans that they follow. Each function does nothing of its own: its contract is the law,
 //! and a caller learns it by the call.
 
-ghost use Rattle.std.specs.Prelude.{◌≡◌, ◌≢◌, ℕ, ◌+◌, ◌<◌, ◌≤◌, List, All, is_some, length, map, replicate};
+ghost use Rattle.std.specs.Prelude.{◌≡◌, ◌≢◌, ℕ, ◌+◌, ◌<◌, ◌≤◌, Some, List, All, is_some, length, map, replicate, slice_get};
 ghost use Rattle.std.specs.List.{AllByRecursion};
 ghost use Rattle.jass_base.specs.declared.query_term.QueryTerm.{QueryTerm};
 ghost use Rattle.ranking_model.specs.Limits.{IsSmall};
@@ -64,6 +64,9 @@ pub fn a_session_plan_names_its_segments()
 pub fn one_entry_more_is_scored()
     ensures names { (index : IndexData) (terms : List QueryTerm) (n : ℕ) (entry : PlanEntry) →
         HasEntry index terms n entry → NamesSegment index terms entry }
+    ensures segment { (index : IndexData) (terms : List QueryTerm) (n : ℕ) (entry : PlanEntry) →
+        HasEntry index terms n entry →
+        slice_get (session_plan index terms).segments n ≡ Some (segment_named index terms entry) }
     ensures scores { (index : IndexData) (terms : List QueryTerm) (n : ℕ) (entry : PlanEntry) →
         HasEntry index terms n entry →
         scores_after (n + 1) (session_plan index terms)

@@ -8,11 +8,15 @@ mod entries;
 mod frames_needed;
 mod heads;
 pub mod laws;
+mod marks;
 mod reporting;
 mod scoring;
 mod session;
 mod stop;
 
+pub use entries::score_entries;
 pub use frames_needed::need;
-pub use session::Session;
+pub use marks::{Marks, NoMarks};
+pub use reporting::report_at;
+pub use session::{Session, plan_of};
 pub use stop::OpenStop;

@@ -1,4 +1,4 @@
-ghost use Rattle.std.specs.Prelude.{◌≡◌, ◌+◌, ◌*◌, ◌<◌, ◌≤◌, ◌^◌, All, length};
+ghost use Rattle.std.specs.Prelude.{◌≡◌, ℕ, ◌+◌, ◌*◌, ◌<◌, ◌≤◌, ◌^◌, All, length};
 ghost use Rattle.jass_base.specs.declared.limits.TheConstants.{MOST_DOCUMENTS};
 ghost use Rattle.accumulator_pages.specs.Pages.{HasRoomFor};
 ghost use Rattle.frame_pool.specs.ChainView.{LeavesPool};
@@ -7,32 +7,39 @@ ghost use Rattle.index_file.specs.Sources.{IsPiece, piece_docs};
 ghost use Rattle.index_model.specs.Querying.{segments_at};
 ghost use Rattle.lane_kernels.specs.Bitmap.{set_bits};
 ghost use Rattle.ranking_model.specs.Scores.{added};
+ghost use Rattle.sharp_bounds.specs.Marks.{marked};
 ghost use Rattle.session_scores.specs.Scores.{AreScoresOf, ScoresStand, docs_of, own_chain, own_view, scores_of};
 
+use crate::marks::Marks;
 use frame_pool::FramePool;
 use frame_pool::laws::calls_on_one_chain;
 use index_file::{Piece, Source};
 use jass_base::Steps;
 use ranking_model::prefix_laws::{one_segment_more_is_added, scores_stay_small};
 use session_scores::Scores;
+use sharp_bounds::mask_laws::each_posting_marks_its_document;
 use std::sync::ledger::Ledger;
 
 /// A segment of a term, and the weight that it adds to the score of each of its documents.
 #[derive(Clone, Copy)]
 pub struct WeighedSegment {
+    /// The term's place in the query.
+    pub term_place: u32,
     pub term: u32,
     pub segment: u32,
     pub weight: u32,
     pub count: u32,
 }
 
-/// Adds the weight of a whole segment to the scores of its documents. `block` is room for documents.
-pub fn score_segment<S: Source, L: Ledger>(
+/// Adds the weight of a whole segment to the scores of its documents, and marks each of them. `block` is room for
+/// documents.
+pub fn score_segment<S: Source, M: Marks, L: Ledger>(
     scores: &mut Scores,
     source: &S,
     pool: &mut FramePool,
     segment: WeighedSegment,
     block: &mut [u32; 128],
+    marks: &mut M,
     steps: &mut Steps<L>,
 )
     requires term { segment.term < length (S.index source.now).terms }
@@ -44,6 +51,9 @@ pub fn score_segment<S: Source, L: Ledger>(
     requires fits { All (λ score. score < 2 ^ 32) (added segment.weight
         (segment_at (S.index source.now).terms segment.term segment.segment).docs (scores_of scores.old pool.old)) }
     requires room { HasRoomFor (own_view scores.old pool.old) (docs_of scores.old) segment.count }
+    requires place { M.has_place marks.old segment.term_place }
+    requires marks { All (λ doc. M.has_mask marks.old doc)
+        (segment_at (S.index source.now).terms segment.term segment.segment).docs }
     ensures scores { scores_of scores.new pool.new ≡ added segment.weight
         (segment_at (S.index source.now).terms segment.term segment.segment).docs (scores_of scores.old pool.old) }
     ensures frames { length (own_view scores.new pool.new).frames
@@ -52,13 +62,18 @@ pub fn score_segment<S: Source, L: Ledger>(
     ensures same { AreScoresOf scores.old scores.new }
     ensures leaves { LeavesPool pool.old pool.new (own_chain scores.old) }
     ensures steps { steps.new ≡ steps.old + segment.count }
+    ensures masks { M.masks marks.new ≡ marked segment.term_place
+        (segment_at (S.index source.now).terms segment.term segment.segment).docs (M.masks marks.old) }
+    ensures places { (place : ℕ) → M.has_place marks.old place → M.has_place marks.new place }
+    ensures marks { (doc : ℕ) → M.has_mask marks.old doc → M.has_mask marks.new doc }
 {
     source.is_searchable();
     if segment.count == 1 {
         let doc = source.first_doc(segment.term, segment.segment, steps);
         scores.add(pool, doc, segment.weight);
+        marks.mark_one(segment.term_place, doc);
     } else {
-        score_pieces(scores, source, pool, segment, block, steps);
+        score_pieces(scores, source, pool, segment, block, marks, steps);
     }
 }
 
@@ -127,13 +142,14 @@ fn score_bits(scores: &mut Scores, pool: &mut FramePool, first: u32, bits: &[u8]
     }
 }
 
-/// Adds the weight of a whole segment, piece by piece.
-fn score_pieces<S: Source, L: Ledger>(
+/// Adds the weight of a whole segment and marks its documents, piece by piece.
+fn score_pieces<S: Source, M: Marks, L: Ledger>(
     scores: &mut Scores,
     source: &S,
     pool: &mut FramePool,
     segment: WeighedSegment,
     block: &mut [u32; 128],
+    marks: &mut M,
     steps: &mut Steps<L>,
 )
     requires term { segment.term < length (S.index source.now).terms }
@@ -146,6 +162,9 @@ fn score_pieces<S: Source, L: Ledger>(
     requires fits { All (λ score. score < 2 ^ 32) (added segment.weight
         (segment_at (S.index source.now).terms segment.term segment.segment).docs (scores_of scores.old pool.old)) }
     requires room { HasRoomFor (own_view scores.old pool.old) (docs_of scores.old) segment.count }
+    requires place { M.has_place marks.old segment.term_place }
+    requires marks { All (λ doc. M.has_mask marks.old doc)
+        (segment_at (S.index source.now).terms segment.term segment.segment).docs }
     ensures scores { scores_of scores.new pool.new ≡ added segment.weight
         (segment_at (S.index source.now).terms segment.term segment.segment).docs (scores_of scores.old pool.old) }
     ensures frames { length (own_view scores.new pool.new).frames
@@ -154,15 +173,21 @@ fn score_pieces<S: Source, L: Ledger>(
     ensures same { AreScoresOf scores.old scores.new }
     ensures leaves { LeavesPool pool.old pool.new (own_chain scores.old) }
     ensures steps { steps.new ≡ steps.old + segment.count }
+    ensures masks { M.masks marks.new ≡ marked segment.term_place
+        (segment_at (S.index source.now).terms segment.term segment.segment).docs (M.masks marks.old) }
+    ensures places { (place : ℕ) → M.has_place marks.old place → M.has_place marks.new place }
+    ensures marks { (doc : ℕ) → M.has_mask marks.old doc → M.has_mask marks.new doc }
 {
     calls_on_one_chain();
     one_segment_more_is_added();
     scores_stay_small();
+    each_posting_marks_its_document();
     let mut cursor = source.start(segment.term, segment.segment);
     let mut left = segment.count;
     'pieces: while left > 0 {
         let piece = source.hand_out(&mut cursor, block, steps);
         score_piece(scores, pool, piece, block, segment.weight);
+        marks.mark_piece(segment.term_place, piece, block);
         left -= piece.count();
     }
 }

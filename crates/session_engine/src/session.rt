@@ -12,6 +12,7 @@ use crate::entries::score_entries;
 use crate::frames_needed::need;
 use crate::heads::query_heads;
 use crate::laws::{a_session_plan_names_its_segments, nothing_is_scored_at_first};
+use crate::marks::NoMarks;
 use crate::reporting::report_at;
 use crate::stop::OpenStop;
 use frame_pool::FramePool;
@@ -165,6 +166,7 @@ impl Session {
             &self.plan,
             self.scored,
             to,
+            &mut NoMarks,
             steps,
         );
         self.scores.settle(pool);
@@ -224,8 +226,8 @@ impl Session {
     }
 }
 
-/// The plan of a query.
-fn plan_of<S: Source>(alloc: Global, source: &S, query: &Query) -> Result<Plan, NoMemory>
+/// The plan of a query whose terms are the index's.
+pub fn plan_of<S: Source>(alloc: Global, source: &S, query: &Query) -> Result<Plan, NoMemory>
     requires { AreKnown (S.index source.now) query.now.terms }
     ensures { IfOk result (λ plan. IsPlanned (S.index source.now) query.now.terms plan) }
 {

@@ -1,4 +1,4 @@
-ghost use Rattle.std.specs.Prelude.{◌≡◌, ℕ, ◌+◌, ◌*◌, ◌<◌, ◌≤◌, ◌^◌, [], ◌∷◌, All, IfOk, IfErr, length, replicate};
+ghost use Rattle.std.specs.Prelude.{◌≡◌, ℕ, ◌+◌, ◌*◌, ◌<◌, ◌≤◌, ◌^◌, [], ◌∷◌, All, IfOk, IfErr, length, replicate, slice_index};
 ghost use Rattle.frame_pool.specs.Pool.{PoolView, IsInUse};
 ghost use Rattle.frame_pool.specs.ChainView.{LeavesPool, chain_view};
 ghost use Rattle.accumulator_pages.specs.Adding.{touched_pages};
@@ -249,6 +249,15 @@ impl Scores {
             → result ≡ runner_up (scores_of self.now pool) (k_of self.now) }
     {
         self.top.runner_up()
+    }
+
+    /// The score of a document.
+    pub fn score(&self, pool: &FramePool, doc: u32) -> u32
+        requires stand { ScoresStand self.now pool.now }
+        requires inside { doc < docs_of self.now }
+        ensures { result ≡ slice_index (scores_of self.now pool.now) doc }
+    {
+        self.pages.get(pool, doc)
     }
 
     /// The least document without a score, and `None` exactly where each has one.
