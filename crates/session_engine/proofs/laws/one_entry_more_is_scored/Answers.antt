@@ -11,7 +11,7 @@ returns-clause-names c index terms n entry is =
 pub returns-clause-segment : goal.returns-clause-segment
 returns-clause-segment c index terms n entry is =
     mapped_there (segment_named index terms) (plan_with terms (query_heads index terms)).entries (session_plan index terms).segments n entry
-    (c.a_session_plan_names_its_segments.ensures.segments index terms is.is_index is.named is.known) is.at
+    (c.a_session_plan_names_its_segments.ensures.segments index terms is.is_well_formed is.named is.known) is.at
 
 pub returns-clause-scores : goal.returns-clause-scores
 returns-clause-scores c index terms n entry is = c.one_segment_more_is_added.ensures.segment n (session_plan index terms) (segment_named index terms entry)

@@ -1,0 +1,6 @@
+#![tactic(auto)]
+
+//! A search that stops as soon as its answer can't change, over any source of segments.
+
+mod deciding;
+mod weights;
