@@ -3,10 +3,12 @@ pub mod BitRows
 pub mod Bounds
 pub mod Cursors
 pub mod ListsRead
+pub mod Marks
 pub mod Pieces
+pub mod Reaching
 pub mod Scores
 pub mod Searching
+pub mod Selecting
 pub mod Stamps
 pub mod Standing
 pub mod Walks
-pub mod Windows

@@ -18,7 +18,7 @@ itself n = omega arith
 
 -- ---- counts
 
-counted : (doc : ℕ) (docs : List ℕ) → 1 ≤ count doc docs → In doc docs
+pub counted : (doc : ℕ) (docs : List ℕ) → 1 ≤ count doc docs → In doc docs
 counted doc [] some = absurd (omega arith)
 counted doc (d ∷ docs) some = by (cases_eq d doc) (counted doc docs) where
   by : (d ≡ doc) ⊎ (d ≡ doc → ⊥) → (1 ≤ count doc docs → In doc docs) → In doc (d ∷ docs)
@@ -38,7 +38,7 @@ none_above doc (d ∷ docs) above =
     let rest = none_above doc docs above.1 in
     rw (s, f) (omega arith)
 
-once : (doc : ℕ) (docs : List ℕ) → Pairs (λ x y. x < y) docs → count doc docs ≤ 1
+pub once : (doc : ℕ) (docs : List ℕ) → Pairs (λ x y. x < y) docs → count doc docs ≤ 1
 once doc [] rising = omega arith
 once doc (d ∷ docs) rising = by (cases_eq d doc) (once doc docs rising.1) where
   by : (d ≡ doc) ⊎ (d ≡ doc → ⊥) → count doc docs ≤ 1 → count doc (d ∷ docs) ≤ 1
@@ -101,7 +101,7 @@ other_all doc (s ∷ segments) impacts none =
     let zero_here : s.impact * count doc s.docs ≡ 0 = ap (λ n. s.impact * n) none.0 ∙ nothing s.impact in
     (rest.0 ∙ other s.impact doc s.docs impacts none.0, let sum = rest.1 in omega arith)
 
-none_of : (doc : ℕ) (s : SegmentData) (segments : List SegmentData) → AllByRecursion (λ (t : SegmentData). SharesNoDocument s t) segments → In doc s.docs → AllByRecursion (λ (t : SegmentData). count doc t.docs ≡ 0) segments
+pub none_of : (doc : ℕ) (s : SegmentData) (segments : List SegmentData) → AllByRecursion (λ (t : SegmentData). SharesNoDocument s t) segments → In doc s.docs → AllByRecursion (λ (t : SegmentData). count doc t.docs ≡ 0) segments
 none_of doc s [] apart is = tt
 none_of doc s (t ∷ segments) apart is = (by (cases_eq (count doc t.docs) 0), none_of doc s segments apart.1 is) where
   by : (count doc t.docs ≡ 0) ⊎ (count doc t.docs ≡ 0 → ⊥) → count doc t.docs ≡ 0

@@ -1,35 +1,38 @@
 -- Candidates while documents come: one is passed over or taken in, the first k are kept, and at the end they are the answer.
-use Rattle.shared_lemmas.proofs.Common.{◌≡◌, ◌≢◌, ℕ, zero, suc, ◌+◌, ◌-◌, ◌<◌, ◌≤◌, ◌==◌, List, [], ◌∷◌, ◌++◌, length, take, drop, get_or, sum_by, Bool, true, false, cond, refl, sym, ap, subst, ◌∙◌, arith, inl, inr, ◌⊎◌, eq-eqb, AllByRecursion, Contains, is_lt, is_gt, cases_eq, cases_lt, nat_tests, ordering_then, nat_cmp, get_or-take}
-use Rattle.shared_lemmas.proofs.Common.{sum_by-cons, sum_by-append, sum_by-take-drop, length-take-le}
+use Rattle.shared_lemmas.proofs.Common.{◌≡◌, ◌≢◌, ℕ, ◌+◌, ◌<◌, ◌≤◌, ◌==◌, List, [], ◌∷◌, ◌++◌, length, take, get_or, sum_by, Bool, true, false, cond, refl, sym, ap, subst, ◌∙◌, arith, inl, inr, ◌⊎◌, eq-eqb, AllByRecursion, Contains, is_lt, is_gt, cases_eq, cases_lt, nat_tests, ordering_then, nat_cmp}
+use Rattle.shared_lemmas.proofs.Common.{sum_by-cons, sum_by-append, sum_by-IsPermutation, IsPermutation, All-permutation, Contains-permutation, All-from_recursion, recursion_from_All}
 use Rattle.shared_lemmas.proofs.Members.{In, all_at, all_in, in_from_contains, contains_from_in}
-use Rattle.shared_lemmas.proofs.Lists.{all_weaker, all_append, all_take}
+use Rattle.shared_lemmas.proofs.Lists.{all_weaker, all_append, all_front, all_take}
 use Rattle.shared_lemmas.proofs.Pairs.{Pairs, pairs_by_places}
 use Rattle.jass_base.specs.declared.answer.Hit.{Hit}
 use Rattle.ranking_model.specs.Order.{sorted}
-use Rattle.ranking_model.specs.Scores.{AreHitsOf, rank_cmp, hits_from, first_ranked}
-use Rattle.ranking_model.proofs.Sorting.{Ascends, all_sorted, length_sorted, sum_by-sorted, sorted_ascends}
-use Rattle.ranking_model.proofs.Orders.{rank_total}
-use Rattle.ranking_model.proofs.Candidates.{in_sorted, in_part, take_before_drop, first_of_candidates, hits_each}
-use Rattle.max_score.specs.Private.Standing.{AreScored, IsBeaten, Stands, hit_of}
+use Rattle.ranking_model.specs.Scores.{AreAhead, AreHitsOf, rank_cmp, hits_from, first_ranked}
+use Rattle.ranking_model.proofs.Sorting.{all_sorted}
+use Rattle.ranking_model.proofs.Candidates.{first_of_candidates, hits_each}
+use Rattle.max_score.specs.Private.Standing.{AreScored, IsBeaten, IsPassed, Misses, Stands, hit_of}
 use Rattle.max_score.proofs.Ahead.{of_doc, counts, beaten_isnt_first}
 
 -- ---- the start
 
-pub begun : (scores : List ℕ) (k : ℕ) (hits : List Hit) → length hits ≡ 0 → Stands scores k 0 0 hits
-begun scores k [] none = record {
+pub begun : (scores : List ℕ) (k threshold : ℕ) (hits : List Hit) → length hits ≡ 0 → Misses scores k threshold 0 → Stands scores k 0 threshold hits
+begun scores k threshold [] none misses = record {
   are = record { scored = tt; once = λ doc. omega arith };
   met = tt;
-  kept = λ d below. absurd (omega arith);
-  misses = λ d from inside some low. absurd (omega arith);
+  kept = λ d below inside some. absurd (omega arith);
+  misses = misses;
 }
-begun scores k (h ∷ hits) none = absurd (omega arith)
+begun scores k threshold (h ∷ hits) none misses = absurd (omega arith)
+
+-- a document that has a score passes 0
+pub none_missed : (scores : List ℕ) (k from : ℕ) → Misses scores k 0 from
+none_missed scores k from d low inside some small = absurd (omega arith)
 
 -- ---- one document more
 
 -- documents that can't be among the first are passed over
 pub passed_over : (scores : List ℕ) (k doc next threshold : ℕ) (hits : List Hit) → Stands scores k doc threshold hits → doc ≤ next
-    → ((d : ℕ) → doc ≤ d → d < next → d < length scores → get_or scores d 0 ≤ threshold) → Stands scores k next threshold hits
-passed_over scores k doc next threshold hits stands on low = record {
+    → ((d : ℕ) → doc ≤ d → d < next → d < length scores → IsPassed scores k d) → Stands scores k next threshold hits
+passed_over scores k doc next threshold hits stands on passed = record {
   are = stands.are;
   met = all_weaker (λ (h : Hit). h.doc < doc) (λ h. h.doc < next) (λ h below. omega arith) hits stands.met;
   kept = λ d below inside some. by d below inside some (cases_lt d doc);
@@ -38,7 +41,7 @@ passed_over scores k doc next threshold hits stands on low = record {
   where
     by : (d : ℕ) → d < next → d < length scores → 1 ≤ get_or scores d 0 → (d < doc) ⊎ (doc ≤ d) → Contains hits (hit_of scores d) ⊎ IsBeaten scores k d
     by d below inside some (inl before) = stands.kept d before inside some
-    by d below inside some (inr from) = inr (stands.misses d from inside some (low d from below inside))
+    by d below inside some (inr from) = inr (passed d from below inside some)
 
 in_back : (h : Hit) (xs ys : List Hit) → In h ys → In h (xs ++ ys)
 in_back h [] ys there = there
@@ -97,16 +100,6 @@ taken_in scores k threshold hit hits stands inside is some = record {
 
 -- ---- the first k are kept
 
--- each of the first k has at least the score of the last of them
-at_least : (k : ℕ) (xs : List Hit) (none : Hit) → Ascends rank_cmp xs → k < length xs → AllByRecursion (λ (h : Hit). (get_or xs k none).score ≤ h.score) (take (suc k) xs)
-at_least k [] none order long = absurd (omega arith)
-at_least zero (x ∷ xs) none order long = (omega arith, tt)
-at_least (suc k) (x ∷ xs) none order long = (first k xs order.0 (omega arith), at_least k xs none order.1 (omega arith)) where
-  first : (k : ℕ) (xs : List Hit) → AllByRecursion (λ y. is_gt (rank_cmp x y) ≡ false) xs → k < length xs → (get_or xs k none).score ≤ x.score
-  first k [] after long = absurd (omega arith)
-  first zero (y ∷ ys) after long = let behind = after.0 in grind (arith, nat_tests)
-  first (suc k) (y ∷ ys) after long = first k ys after.1 (omega arith)
-
 once_apart : (d e : ℕ) (first last : List Hit) → sum_by (of_doc d) (first ++ last) ≤ 1 → 1 ≤ sum_by (of_doc d) first → 1 ≤ sum_by (of_doc e) last → d ≡ e → ⊥
 once_apart d e first last few here there same =
     let split = sum_by-append (of_doc d) first last in
@@ -116,88 +109,63 @@ once_apart d e first last few here there same =
 before_it : (a h : Hit) → is_gt (rank_cmp a h) ≡ false → (a.doc ≡ h.doc → ⊥) → is_lt (rank_cmp a h) ≡ true
 before_it a h behind apart = let ne : a.doc ≢ h.doc = apart in grind (arith, nat_tests)
 
-module _ (scores : List ℕ) (k doc threshold : ℕ) (hits : List Hit) (stands : Stands scores k doc threshold hits) (some : 1 ≤ k) (more : k < length hits) where
-  abbrev all : List Hit
-  all = sorted rank_cmp hits
+in_one : (h : Hit) (xs ys : List Hit) → In h (xs ++ ys) → In h xs ⊎ In h ys
+in_one h [] ys there = inr there
+in_one h (x ∷ xs) ys (inl e) = inl (inl e)
+in_one h (x ∷ xs) ys (inr there) = elim (in_one h xs ys there) [ inl k ↦ inl (inr k) | inr k ↦ inr k ]
 
-  abbrev first : List Hit
-  first = take k all
-
-  abbrev last : List Hit
-  last = drop k all
-
-  order : Ascends rank_cmp all
-  order = sorted_ascends rank_cmp rank_total hits
-
-  long : length all ≡ length hits
-  long = length_sorted rank_cmp hits
-
-  size : length first ≡ k
-  size = length-take-le k all (let n = long in omega arith)
-
+-- the candidates in two parts, of which none in front comes after one behind
+module _ (scores : List ℕ) (k doc threshold : ℕ) (hits first last : List Hit) (stands : Stands scores k doc threshold hits) (parted : IsPermutation hits (first ++ last)) (size : length first ≡ k) (above : AreAhead first last) where
   few : (d : ℕ) → sum_by (of_doc d) (first ++ last) ≤ 1
-  few d =
-      let whole = sum_by-append (of_doc d) first last in
-      let split = sum_by-take-drop (of_doc d) all k in
-      let same = sum_by-sorted rank_cmp (of_doc d) hits in
-      let once = stands.are.once d in
-      omega arith
+  few d = let same = sum_by-IsPermutation (of_doc d) hits (first ++ last) parted in let once = stands.are.once d in omega arith
+
+  of_front : (P : Hit → Type 0) → AllByRecursion P hits → AllByRecursion P first
+  of_front P all = all_front P first last (recursion_from_All P (first ++ last) (All-permutation P hits (first ++ last) parted (All-from_recursion P hits all)))
 
   first_are : AreScored scores first
   first_are = record {
-    scored = all_take (λ (h : Hit). (h.doc < length scores) × (1 ≤ h.score) × (h.score ≡ get_or scores h.doc 0)) k all
-        (all_sorted rank_cmp (λ (h : Hit). (h.doc < length scores) × (1 ≤ h.score) × (h.score ≡ get_or scores h.doc 0)) hits stands.are.scored);
+    scored = of_front (λ (h : Hit). (h.doc < length scores) × (1 ≤ h.score) × (h.score ≡ get_or scores h.doc 0)) stands.are.scored;
     once = λ d. let whole = sum_by-append (of_doc d) first last in let once = few d in omega arith;
   }
 
   first_met : AllByRecursion (λ (h : Hit). h.doc < doc) first
-  first_met = all_take (λ (h : Hit). h.doc < doc) k all (all_sorted rank_cmp (λ (h : Hit). h.doc < doc) hits stands.met)
+  first_met = of_front (λ (h : Hit). h.doc < doc) stands.met
 
   -- one behind the first k is beaten by them
   behind : (h : Hit) → In h last → AllByRecursion (λ a. is_lt (rank_cmp a h) ≡ true) first
   behind h there = all_in (λ a. is_lt (rank_cmp a h) ≡ true) first (λ a here. before_it a h
-      (all_at (λ b. is_gt (rank_cmp a b) ≡ false) last h (all_at (λ a. AllByRecursion (λ b. is_gt (rank_cmp a b) ≡ false) last) first a (take_before_drop rank_cmp k all order) here) there)
+      (all_at (λ b. is_gt (rank_cmp a b) ≡ false) last h (all_at (λ a. AllByRecursion (λ b. is_gt (rank_cmp a b) ≡ false) last) first a above here) there)
       (once_apart a.doc h.doc first last (few a.doc) (counts a first here) (counts h last there)))
 
   -- so is a later document whose score is no greater than that of the last of them
-  later : (none : Hit) (d : ℕ) → doc ≤ d → get_or scores d 0 ≤ (get_or all (k - 1) none).score → AllByRecursion (λ a. is_lt (rank_cmp a (hit_of scores d)) ≡ true) first
-  later none d from low = all_in (λ a. is_lt (rank_cmp a (hit_of scores d)) ≡ true) first (λ a here. ahead a
-      (all_at (λ (h : Hit). (get_or all (k - 1) none).score ≤ h.score) first a high here) (all_at (λ (h : Hit). h.doc < doc) first a first_met here))
+  later : (least : ℕ) → AllByRecursion (λ (h : Hit). least ≤ h.score) first → (d : ℕ) → doc ≤ d → get_or scores d 0 ≤ least → AllByRecursion (λ a. is_lt (rank_cmp a (hit_of scores d)) ≡ true) first
+  later least high d from low = all_in (λ a. is_lt (rank_cmp a (hit_of scores d)) ≡ true) first (λ a here. ahead a
+      (all_at (λ (h : Hit). least ≤ h.score) first a high here) (all_at (λ (h : Hit). h.doc < doc) first a first_met here))
     where
-      high : AllByRecursion (λ (h : Hit). (get_or all (k - 1) none).score ≤ h.score) first
-      high = let is : suc (k - 1) ≡ k = omega arith in subst (λ n. AllByRecursion (λ (h : Hit). (get_or all (k - 1) none).score ≤ h.score) (take n all)) is (at_least (k - 1) all none order (let n = long in omega arith))
-
-      ahead : (a : Hit) → (get_or all (k - 1) none).score ≤ a.score → a.doc < doc → is_lt (rank_cmp a (hit_of scores d)) ≡ true
+      ahead : (a : Hit) → least ≤ a.score → a.doc < doc → is_lt (rank_cmp a (hit_of scores d)) ≡ true
       ahead a high met = beats a.score (get_or scores d 0) a.doc d (omega arith) (omega arith)
         where
           beats : (x y i j : ℕ) → y ≤ x → i < j → is_lt (ordering_then (nat_cmp y x) (nat_cmp i j)) ≡ true
           beats x y i j a b = grind (arith, nat_tests)
 
-  pub cut_to : (none : Hit) (next : ℕ) → next ≡ (get_or first (k - 1) none).score → Stands scores k doc next first
-  cut_to none next is = record {
+  pub cut_to : (least : ℕ) → AllByRecursion (λ (h : Hit). least ≤ h.score) first → Stands scores k doc least first
+  cut_to least high = record {
     are = first_are;
     met = first_met;
     kept = λ d below inside more. by d (stands.kept d below inside more);
-    misses = λ d from inside more low. record { ahead = first; are = first_are; many = (let n = size in omega arith); before = later none d from (let e = same in omega arith) };
+    misses = λ d from inside more low. record { ahead = first; are = first_are; many = (let n = size in omega arith); before = later least high d from low };
   }
     where
-      same : next ≡ (get_or all (k - 1) none).score
-      same = is ∙ ap (λ (h : Hit). h.score) (get_or-take k all (k - 1) none (omega arith))
-
       in_either : (h : Hit) → In h first ⊎ In h last → Contains first h ⊎ AllByRecursion (λ a. is_lt (rank_cmp a h) ≡ true) first
       in_either h (inl there) = inl (contains_from_in first h there)
       in_either h (inr there) = inr (behind h there)
 
       by : (d : ℕ) → Contains hits (hit_of scores d) ⊎ IsBeaten scores k d → Contains first (hit_of scores d) ⊎ IsBeaten scores k d
       by d (inr beaten) = inr beaten
-      by d (inl there) = elim (in_either (hit_of scores d) (in_part (hit_of scores d) k all (in_sorted rank_cmp (hit_of scores d) hits (in_from_contains hits (hit_of scores d) there)))) [
+      by d (inl there) = elim (in_either (hit_of scores d) (in_one (hit_of scores d) first last (in_from_contains (first ++ last) (hit_of scores d) (Contains-permutation hits (first ++ last) (hit_of scores d) parted there)))) [
         | inl k ↦ inl k
         | inr ahead ↦ inr (record { ahead = first; are = first_are; many = (let n = size in omega arith); before = ahead })
       ]
-
-pub kept_length : (k : ℕ) (hits ranked kept : List Hit) → k < length hits → ranked ≡ sorted rank_cmp hits → kept ≡ take k ranked → length kept ≡ k
-kept_length k hits ranked kept more is cut =
-    let long = ap (λ (l : List Hit). length l) is ∙ length_sorted rank_cmp hits in ap (λ (l : List Hit). length l) cut ∙ length-take-le k ranked (omega (arith, long, more))
 
 -- ---- the end
 

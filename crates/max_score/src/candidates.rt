@@ -3,15 +3,19 @@ ghost use Rattle.ranking_model.specs.Order.{sorted};
 ghost use Rattle.ranking_model.specs.Scores.{first_ranked, rank_cmp};
 ghost use Rattle.max_score.specs.Private.Standing.{Stands};
 ghost use Rattle.max_score.specs.Private.Room.{HasRoom};
+ghost use Rattle.max_score.specs.Private.Selecting.{HasFirst};
 
 use jass_base::{Hit, NoMemory};
 use std::alloc::Global;
 use std::cmp::Reverse;
+use std::mem::swap;
 
 /// Documents met so far, among which are the first of them.
 #[derive(Drop)]
 pub struct Candidates {
     pub hits: Vec<Hit>,
+    /// Where the first k are put while they are chosen; what it holds is left open.
+    pub spare: Vec<Hit>,
     /// How many documents are asked for.
     pub k: usize,
     /// How many hits there is room for, more than k.
@@ -32,8 +36,10 @@ impl Candidates {
         let k = k as usize;
         let room = k + k / 2 + 8;
         let hits = Vec::with_capacity(alloc, room)?;
+        let spare = Vec::with_capacity(alloc, room)?;
         Ok(Candidates {
             hits,
+            spare,
             k,
             room,
             threshold: 0,
@@ -55,21 +61,22 @@ impl Candidates {
         }
     }
 
-    /// Keeps the first k, of more.
+    /// Keeps the first k, of more, in no stated order.
     fn cut(&mut self)
         requires some { 1 ≤ self.old.k }
         requires more { self.old.k < length self.old.hits.items }
+        requires spare { self.old.k ≤ vec_capacity self.old.spare }
         ensures stands { (scores : List ℕ) (doc : ℕ) →
             Stands scores self.old.k doc self.old.threshold self.old.hits.items →
             Stands scores self.new.k doc self.new.threshold self.new.hits.items }
         ensures k { self.new.k ≡ self.old.k }
         ensures size { self.new.room ≡ self.old.room }
-        ensures room { vec_capacity self.new.hits ≡ vec_capacity self.old.hits }
+        ensures room { vec_capacity self.old.spare ≤ vec_capacity self.new.hits }
+        ensures spare { vec_capacity self.new.spare ≡ vec_capacity self.old.hits }
         ensures left { length self.new.hits.items ≡ self.old.k }
     {
-        rank(&mut self.hits);
-        self.hits.truncate(self.k);
-        self.threshold = self.hits[self.k - 1].score;
+        self.threshold = copy_first(&mut self.hits, self.k, &mut self.spare);
+        swap(&mut self.hits, &mut self.spare);
     }
 
     /// Keeps the first k, in order.
@@ -82,6 +89,28 @@ impl Candidates {
         rank(&mut self.hits);
         self.hits.truncate(self.k);
     }
+}
+
+/// Copies the first k hits, in no stated order, in place of what `first` holds. The answer is the score of the last of
+/// them. The hits themselves are left in some order.
+fn copy_first(hits: &mut Vec<Hit>, k: usize, first: &mut Vec<Hit>) -> u32
+    requires some { 1 ≤ k }
+    requires more { k < length hits.old.items }
+    requires room { k ≤ vec_capacity first.old }
+    ensures first { HasFirst hits.old.items first.new.items k result }
+    ensures room { vec_capacity first.old ≤ vec_capacity first.new }
+    ensures same { vec_capacity hits.new ≡ vec_capacity hits.old }
+{
+    first.clear();
+    let (front, last, _) = hits.select_nth_unstable_by_key(
+        k - 1,
+        |hit| (Reverse(hit.score), hit.doc),
+    );
+    let last = *last;
+    // There is room for them.
+    let _ = first.extend_from_slice(front);
+    first.push_reserved(last);
+    last.score
 }
 
 fn rank(hits: &mut Vec<Hit>)

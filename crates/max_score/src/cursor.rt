@@ -1,4 +1,5 @@
 ghost use Rattle.std.specs.Prelude.{◌≡◌, ◌+◌, ◌<◌, ◌≤◌, ℕ, All, IfOk, filter, length, nat_le, slice_get, slice_index};
+ghost use Rattle.std.specs.Int.{bit_at};
 ghost use Rattle.index_model.specs.Querying.{segments_at};
 ghost use Rattle.max_score.specs.Cursors.{IsSameCursor, left_of, postings_in, read_over, unread};
 
@@ -103,13 +104,18 @@ impl TermCursor {
         self.from = self.from.max(to.min(docs));
     }
 
-    /// How many documents from one on, of 16, have no impact in front of the first that has one.
-    pub fn gap(&self, from: u32) -> u32
-        requires { from + 16 ≤ self.now.docs }
-        ensures within { result ≤ 16 }
-        ensures none { (doc : ℕ) → from ≤ doc → doc < from + result → slice_index self.now.impacts doc ≡ 0 }
+    pub(crate) fn term(&self) -> u32
+        ensures { result ≡ self.now.term }
     {
-        zeros_ahead(&self.impacts, from as usize)
+        self.term
+    }
+
+    /// Which of the 64 documents from one on have an impact: bit i is the mark of document `from` + i.
+    pub fn marks(&self, from: u32) -> u64
+        requires { from + 64 ≤ self.now.docs }
+        ensures { (i : ℕ) → i < 64 → bit_at result i ≡ 0 → slice_index self.now.impacts (from + i) ≡ 0 }
+    {
+        some_of_64(&self.impacts, from as usize)
     }
 
     /// The impact of a document; 0 where it has none.
@@ -121,14 +127,12 @@ impl TermCursor {
     }
 }
 
-/// How many of the 16 numbers from a place on are 0 in front of the first that isn't.
-fn zeros_ahead(numbers: &[u16], at: usize) -> u32
-    requires { at + 16 ≤ length numbers.now }
-    ensures within { result ≤ 16 }
-    ensures none { (k : ℕ) → at ≤ k → k < at + result → slice_index numbers.now k ≡ 0 }
+/// Which of the 64 numbers from a place on aren't 0: bit i is the mark of the number at that place + i.
+fn some_of_64(numbers: &[u16], at: usize) -> u64
+    requires { at + 64 ≤ length numbers.now }
+    ensures { (i : ℕ) → i < 64 → bit_at result i ≡ 0 → slice_index numbers.now (at + i) ≡ 0 }
 {
-    let some = u16x16::from_slice(&numbers[at..])
-        .simd_ne(u16x16::splat(0))
-        .to_bitmask();
-    if some == 0 { 16 } else { some.trailing_zeros() }
+    u16x64::from_slice(&numbers[at..])
+        .simd_ne(u16x64::splat(0))
+        .to_bitmask()
 }

@@ -9,6 +9,7 @@ mod filling;
 mod posting;
 mod reading;
 mod search;
+mod starting;
 mod term_list;
 mod walk;
 

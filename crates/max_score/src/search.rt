@@ -4,6 +4,7 @@ ghost use Rattle.max_score.specs.Searches.{AreKnown, IsSearchOf, IsSearchOver, e
 
 use crate::candidates::Candidates;
 use crate::filling::{new_lists, read_lists};
+use crate::starting::first_threshold;
 use crate::term_list::TermList;
 use crate::walk::walk;
 use index_file::Source;
@@ -88,6 +89,7 @@ impl MaxScore {
         the_plan_has_the_named_segments();
         source.is_searchable();
         read_lists(&mut self.lists, source, steps);
+        self.best.threshold = first_threshold(&self.lists, source, self.best.k);
         walk(&self.lists, self.docs, &mut self.best);
         self.best.finish();
         self.answered = true;

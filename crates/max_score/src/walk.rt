@@ -1,7 +1,9 @@
 ghost use Rattle.max_score.specs.declared.term_list.TermList.{TermList};
-ghost use Rattle.std.specs.Prelude.{false, get_or, ◌≡◌, ◌+◌, ◌<◌, ◌≤◌, ℕ, All, IfSome, IsNone, length, take};
-ghost use Rattle.max_score.specs.Private.Lists.{AreBounded, most_of, score_in};
+ghost use Rattle.std.specs.Prelude.{get_or, ◌≡◌, ◌+◌, ◌<◌, ◌≤◌, ℕ, All, IfSome, IsNone, length, take};
+ghost use Rattle.std.specs.Int.{bit_at};
+ghost use Rattle.max_score.specs.Private.Lists.{AreBounded, most_of, score_in, scores_in};
 ghost use Rattle.max_score.specs.Private.Room.{HasRoom};
+ghost use Rattle.max_score.specs.Private.Standing.{IsPassed};
 ghost use Rattle.max_score.specs.Private.Walking.{HasMet};
 
 use crate::candidates::Candidates;
@@ -17,14 +19,68 @@ pub fn walk(lists: &[TermList], docs: u32, best: &mut Candidates)
     ensures met { HasMet docs lists.now docs best.new }
     ensures k { best.new.k ≡ best.old.k }
 {
-    let mut first = essential(lists, best.threshold);
+    let from = walk_windows(lists, docs, best);
+    'rest: for doc in from..docs {
+        consider(lists, doc, best);
+    }
+}
+
+/// Takes in those of the documents in front of the one that it answers, by windows of 64.
+fn walk_windows(lists: &[TermList], docs: u32, best: &mut Candidates) -> u32
+    requires bounded { AreBounded lists.now }
+    requires covers { All (λ (list : TermList). list.cursor.docs ≡ docs) lists.now }
+    requires begun { HasMet docs lists.now 0 best.old }
+    requires room { HasRoom best.old }
+    ensures within { result ≤ docs }
+    ensures met { HasMet docs lists.now result best.new }
+    ensures room { HasRoom best.new }
+    ensures k { best.new.k ≡ best.old.k }
+{
     let mut from = 0;
-    'docs: while let Some(doc) = next_doc(&lists[first..], from, docs) {
-        if let Some(score) = score_of(lists, doc, best.threshold) {
-            best.offer(Hit { doc, score });
-            first = essential(lists, best.threshold);
-        }
-        from = doc + 1;
+    'windows: while docs - from >= 64 {
+        let first = essential(lists, best.threshold);
+        let marks = marks(&lists[first..], from);
+        walk_marked(lists, docs, from, marks, best);
+        from += 64;
+    }
+    from
+}
+
+/// Takes in those of 64 documents whose mark is set: bit i is that of document `from` + i.
+fn walk_marked(lists: &[TermList], docs: u32, from: u32, marks: u64, best: &mut Candidates)
+    requires bounded { AreBounded lists.now }
+    requires covers { All (λ (list : TermList). list.cursor.docs ≡ docs) lists.now }
+    requires within { from + 64 ≤ docs }
+    requires begun { HasMet docs lists.now from best.old }
+    requires unmarked { (i : ℕ) → i < 64 → bit_at marks i ≡ 0
+        → IsPassed (scores_in docs lists.now) best.old.k (from + i) }
+    requires room { HasRoom best.old }
+    ensures met { HasMet docs lists.now (from + 64) best.new }
+    ensures room { HasRoom best.new }
+    ensures k { best.new.k ≡ best.old.k }
+{
+    let mut doc = from;
+    let mut ahead = marks;
+    'marked: while ahead != 0 {
+        let gap = ahead.trailing_zeros();
+        consider(lists, doc + gap, best);
+        ahead = (ahead >> gap) >> 1;
+        doc += gap + 1;
+    }
+}
+
+/// Takes in a document where its score passes the threshold.
+fn consider(lists: &[TermList], doc: u32, best: &mut Candidates)
+    requires bounded { AreBounded lists.now }
+    requires inside { All (λ (list : TermList). doc < list.cursor.docs) lists.now }
+    requires room { HasRoom best.old }
+    ensures met { (docs : ℕ) → doc < docs → HasMet docs lists.now doc best.old
+        → HasMet docs lists.now (doc + 1) best.new }
+    ensures room { HasRoom best.new }
+    ensures k { best.new.k ≡ best.old.k }
+{
+    if let Some(score) = score_of(lists, doc, best.threshold) {
+        best.offer(Hit { doc, score });
     }
 }
 
@@ -42,54 +98,16 @@ fn essential(lists: &[TermList], threshold: u32) -> usize
     first
 }
 
-/// The least document from one on that stands in some list.
-fn next_doc(lists: &[TermList], from: u32, docs: u32) -> Option<u32>
-    requires covers { All (λ (list : TermList). list.cursor.docs ≡ docs) lists.now }
-    requires within { from ≤ docs }
-    ensures found { IfSome result (λ doc. (from ≤ doc) × (doc < docs)) }
-    ensures between { IfSome result (λ doc. (d : ℕ) → from ≤ d → d < doc → score_in lists.now d ≡ 0) }
-    ensures none { IsNone result → (d : ℕ) → from ≤ d → d < docs → score_in lists.now d ≡ 0 }
+/// Which of 64 documents stand in some list: bit i is the mark of document `from` + i.
+fn marks(lists: &[TermList], from: u32) -> u64
+    requires { All (λ (list : TermList). from + 64 ≤ list.cursor.docs) lists.now }
+    ensures { (i : ℕ) → i < 64 → bit_at result i ≡ 0 → score_in lists.now (from + i) ≡ 0 }
 {
-    let mut at = from;
-    'windows: while docs - at >= 16 {
-        let gap = gap(lists, at);
-        if gap < 16 {
-            return Some(at + gap);
-        }
-        at += 16;
-    }
-    for doc in at..docs {
-        if is_in(lists, doc) {
-            return Some(doc);
-        }
-    }
-    None
-}
-
-/// How many documents from one on, of 16, stand in no list in front of the first that may stand in some.
-fn gap(lists: &[TermList], from: u32) -> u32
-    requires { All (λ (list : TermList). from + 16 ≤ list.cursor.docs) lists.now }
-    ensures within { result ≤ 16 }
-    ensures none { (doc : ℕ) → from ≤ doc → doc < from + result → score_in lists.now doc ≡ 0 }
-{
-    let mut gap = 16;
+    let mut marks = 0;
     for list in lists {
-        gap = gap.min(list.cursor.gap(from));
+        marks |= list.cursor.marks(from);
     }
-    gap
-}
-
-/// Whether a document stands in some list.
-fn is_in(lists: &[TermList], doc: u32) -> bool
-    requires { All (λ (list : TermList). doc < list.cursor.docs) lists.now }
-    ensures { result ≡ false → score_in lists.now doc ≡ 0 }
-{
-    for list in lists {
-        if list.cursor.impact(doc) > 0 {
-            return true;
-        }
-    }
-    false
+    marks
 }
 
 /// The score of a document, where it passes the threshold.

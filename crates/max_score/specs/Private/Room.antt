@@ -7,4 +7,5 @@ pub record HasRoom (c : Candidates) : Type 0 where
   pub some : 1 ≤ c.k
   pub more : c.k < c.room
   pub within : c.room ≤ vec_capacity c.hits
+  pub spare : c.room ≤ vec_capacity c.spare
   pub left : length c.hits.items < c.room

@@ -21,6 +21,10 @@ pub record IsBeaten (scores : List ℕ) (k doc : ℕ) : Type 0 where
   pub many : k ≤ length ahead
   pub before : AllByRecursion (λ hit. is_lt (rank_cmp hit (hit_of scores doc)) ≡ true) ahead
 
+-- the document has no score, or can't be among the first k
+abbrev pub IsPassed : List ℕ → ℕ → ℕ → Type 0
+IsPassed scores k doc = 1 ≤ slice_index scores doc → IsBeaten scores k doc
+
 -- no document from one on whose score is at most the threshold is among the first k
 abbrev pub Misses : List ℕ → ℕ → ℕ → ℕ → Type 0
 Misses scores k threshold from = (doc : ℕ) → from ≤ doc → doc < length scores → 1 ≤ slice_index scores doc → slice_index scores doc ≤ threshold → IsBeaten scores k doc

@@ -23,5 +23,4 @@ pub record IsKept (docs : ℕ) (terms : List QueryTerm) (all : List TermList) (b
   pub named : answered ≡ false → IsPermutation terms (map named_by all)
   pub unread : answered ≡ false → All (λ (list : TermList). list.cursor ≡ unread list.cursor.term docs) all
   pub none : answered ≡ false → best.hits.items ≡ []
-  pub threshold : answered ≡ false → best.threshold ≡ 0
   pub room : answered ≡ false → HasRoom best

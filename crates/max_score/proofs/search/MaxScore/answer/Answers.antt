@@ -50,7 +50,7 @@ returns-clause-hits g c =
     subst (λ l. IsPermutation c.args.self.now.terms l) (sym (c.read_lists.ensures.named ∙ ap (map named_by) c.deref_mut.ensures.value))
     (subst (λ ts. IsPermutation ts (map named_by c.self.inside.lists.items)) terms (c.self.invariant.named c.if-self.false)) in
     let size : length c.read_lists.new.lists ≡ c.self.inside.lists.len = omega (arith, c.read_lists.auto.lists, c.deref_mut.ensures.len) in
-    let shown : c.deref.result.now ≡ c.read_lists.new.lists = c.deref.ensures.value ∙ with_items_is c.self.inside.lists c.read_lists.new.lists size in
+    let shown : c.deref-2.result.now ≡ c.read_lists.new.lists = c.deref-2.ensures.value ∙ with_items_is c.self.inside.lists c.read_lists.new.lists size in
     let plan = plan_of (length index.names) (numbered_flat index) c.args.self.now.terms in
     finished index c.self.inside.docs c.args.self.now.terms plan c.read_lists.new.lists docs named c.read_lists.ensures.read
     (c.a_plan_has_the_segments_of_its_postings.ensures.docs (length index.names) (numbered_flat index) c.args.self.now.terms)
@@ -73,3 +73,14 @@ returns-clause-over g c = record {
   answer = λ _. returns-clause-hits g c ∙ ap₂ (exhaustive_answer (g.S.Source.index c.args.source.now)) (sym (ap (λ (v : SearchView). v.terms) c.self.view_is))
       (sym (c.finish.ensures.k ∙ c.walk.ensures.k ∙ ap (λ (v : SearchView). v.k) c.self.view_is));
 }
+
+pub first_threshold-self-inside-requires-clause-known : goal.first_threshold-self-inside-requires-clause-known
+first_threshold-self-inside-requires-clause-known g c =
+    let index = g.S.Source.index c.args.source.now in
+    let terms : c.self.inside.terms ≡ c.args.self.now.terms = ap (λ (v : SearchView). v.terms) c.self.view_is in
+    let named : IsPermutation c.args.self.now.terms (map named_by c.read_lists.new.lists) =
+    subst (λ l. IsPermutation c.args.self.now.terms l) (sym (c.read_lists.ensures.named ∙ ap (map named_by) c.deref_mut.ensures.value))
+    (subst (λ ts. IsPermutation ts (map named_by c.self.inside.lists.items)) terms (c.self.invariant.named c.if-self.false)) in
+    let size : length c.read_lists.new.lists ≡ c.self.inside.lists.len = omega (arith, c.read_lists.auto.lists, c.deref_mut.ensures.len) in
+    let shown : c.deref.result.now ≡ c.read_lists.new.lists = c.deref.ensures.value ∙ with_items_is c.self.inside.lists c.read_lists.new.lists size in
+    subst (AllByRecursion (λ (l : TermList). l.cursor.term < length index.terms)) (sym shown) (all_known index c.args.self.now.terms c.read_lists.new.lists named c.requires.known)
