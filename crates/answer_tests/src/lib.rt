@@ -6,6 +6,8 @@
 #[cfg(test)]
 mod audits;
 #[cfg(test)]
+mod cursors;
+#[cfg(test)]
 mod desks;
 #[cfg(test)]
 mod feeds;
