@@ -26,6 +26,7 @@ pub fn new_lists<S: Source>(
         All (λ (list : TermList). list.cursor ≡ unread list.cursor.term (length (S.index source.now).names))
         lists.items) }
 {
+    ask_for_all(alloc, source.docs(), terms.len());
     let mut lists = Vec::new(alloc);
     for named in terms {
         let list = new_list(alloc, source, *named)?;
@@ -33,6 +34,14 @@ pub fn new_lists<S: Source>(
     }
     lists.sort_unstable_by_key(|list| list.greatest);
     Ok(lists)
+}
+
+/// Asks for the room of all lists in one piece, and lets go of it. Allocators keep for later what they have had back in
+/// one piece. Of many small pieces that are let go together they give the memory back to the system, so that each query
+/// would have to take its pages anew.
+fn ask_for_all(alloc: Global, docs: u32, lists: usize) {
+    let room: Result<Vec<u16>, _> = Vec::with_capacity(alloc, (docs as usize).saturating_mul(lists));
+    drop(room);
 }
 
 /// A list of a term, which hasn't been read yet.
