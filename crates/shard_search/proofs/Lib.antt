@@ -1,0 +1,10 @@
+pub mod Blocks
+pub mod Growing
+pub mod Joins
+pub mod Merges
+pub mod NameLists
+pub mod PartTerms
+pub mod Pieces
+pub mod Ranges
+pub mod Spans
+pub mod Tables

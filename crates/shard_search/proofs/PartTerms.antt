@@ -1,0 +1,25 @@
+-- The terms of a part, and of the parts from one on.
+use Rattle.shared_lemmas.proofs.Common.{◌≡◌, ◌≤◌, ◌<◌, ◌+◌, ℕ, zero, suc, List, [], ◌∷◌, ◌++◌, length, map, take, drop, slice_index_or, get_or, ap, ap₂, sym, subst, ◌∙◌, refl, arith, sum_by, sum_by_more, drop_all, length-map, map_more, append-nil, take_all}
+use Rattle.index_model.specs.Index.{IndexData, SegmentData, TermData}
+use Rattle.index_model.specs.Querying.{segments_at}
+use Rattle.index_layout.specs.View.{FileView}
+use Rattle.index_file.specs.Places.{segment_at, term_at}
+use Rattle.shard_search.proofs.NameLists.{indexes_parted}
+use Rattle.shard_search.specs.Merging.{merged_terms, union_terms}
+use Rattle.shard_search.specs.Parts.{base_of, file_at, index_at}
+use Rattle.shard_search.specs.Sums.{file_docs, indexes_of}
+use Rattle.shard_search.specs.Unions.{raised_segment, raised_term}
+
+module _ (files : List FileView) where
+  -- behind the last part there is no term
+  pub no_part : union_terms (base_of files (length files)) (drop (length files) (indexes_of files)) ≡ []
+  no_part = ap (union_terms (base_of files (length files))) (drop_all (length files) (indexes_of files) (let size = length-map files (λ (f : FileView). f.index) in omega (arith, size)))
+
+  -- one part more in front
+  pub part_more : (part : ℕ) → part < length files
+      → union_terms (base_of files part) (drop part (indexes_of files))
+        ≡ merged_terms (map (raised_term (base_of files part)) (index_at files part).terms) (union_terms (base_of files (part + 1)) (drop (part + 1) (indexes_of files)))
+  part_more part inside =
+      ap (union_terms (base_of files part)) (indexes_parted files part inside)
+      ∙ ap (λ (base : ℕ). merged_terms (map (raised_term (base_of files part)) (index_at files part).terms) (union_terms base (drop (part + 1) (indexes_of files))))
+        (sym (sum_by_more file_docs files part (record { index = record { names = []; terms = [] }; codecs = [] }) inside))

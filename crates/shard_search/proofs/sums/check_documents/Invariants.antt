@@ -1,0 +1,10 @@
+use Rattle.std.proofs.Common.{◌≡◌, ◌≤◌, take, sum_by}
+use Rattle.jass_base.specs.declared.limits.TheConstants.{MOST_DOCUMENTS}
+use Rattle.shard_search.specs.Sums.{file_docs}
+use Rattle.shard_search.proofs.sums.check_documents.Given as goal
+
+abbrev pub invariant-parts : goal.invariant-parts
+invariant-parts l = record {
+  sums : l.sum ≡ sum_by file_docs (take l.i l.parts);
+  fits : l.sum ≤ MOST_DOCUMENTS;
+}
