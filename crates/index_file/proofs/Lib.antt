@@ -7,7 +7,7 @@ mod FileParts
 mod FrontMoves
 mod Fronts
 mod Gathering
-mod Halves
+pub mod Halves
 mod HeadLists
 mod HeadWords
 mod HeadsFrom

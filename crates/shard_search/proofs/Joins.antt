@@ -5,7 +5,7 @@ use Rattle.index_layout.specs.View.{FileView}
 use Rattle.index_file.specs.Places.{term_at}
 use Rattle.shard_search.proofs.Merges.{merged_nothing, takes_first, takes_second, takes_both}
 use Rattle.shard_search.proofs.Spans.{span_none}
-use Rattle.shard_search.specs.Merging.{joined_segment, joined_term, merged_segments, merged_terms, segment_cmp, term_cmp}
+use Rattle.index_model.specs.Merging.{joined_segment, joined_term, merged_segments, merged_terms, segment_cmp, term_cmp}
 use Rattle.shard_search.specs.Parts.{index_at}
 use Rattle.shard_search.specs.Private.Heads.{head_order}
 use Rattle.shard_search.specs.Private.Tables.{GrowsTerm, row_segment, row_term, span_segments, told_terms}
@@ -110,7 +110,7 @@ all_joined first second i j now joining over out =
 
 -- ---- a table that has a row's term more
 
-abbrev no_row : TermRow
+abbrev pub no_row : TermRow
 no_row = record { part = 0; term = 0; span = record { from = 0; to = 0 } }
 
 module _ (files : List FileView) (now new : Table) (e : TermData) where

@@ -6,5 +6,7 @@ pub mod NameLists
 pub mod PartTerms
 pub mod Pieces
 pub mod Ranges
+pub mod Reading
 pub mod Spans
 pub mod Tables
+pub mod Unioned

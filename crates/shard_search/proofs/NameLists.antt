@@ -5,7 +5,7 @@ use Rattle.index_model.specs.Index.{IndexData}
 use Rattle.index_layout.specs.View.{FileView}
 use Rattle.shard_search.specs.Parts.{file_at, index_at}
 use Rattle.shard_search.specs.Sums.{file_docs, indexes_of}
-use Rattle.shard_search.specs.Unions.{union_names}
+use Rattle.index_model.specs.Unions.{union_names}
 
 module _ (files : List FileView) (i : ℕ) (inside : i < length files) where
   -- the index of a file, and those of the files behind it

@@ -5,10 +5,10 @@ use Rattle.index_model.specs.Querying.{segments_at}
 use Rattle.index_layout.specs.View.{FileView}
 use Rattle.index_file.specs.Places.{segment_at, term_at}
 use Rattle.shard_search.proofs.NameLists.{indexes_parted}
-use Rattle.shard_search.specs.Merging.{merged_terms, union_terms}
+use Rattle.index_model.specs.Merging.{merged_terms, union_terms}
 use Rattle.shard_search.specs.Parts.{base_of, file_at, index_at}
 use Rattle.shard_search.specs.Sums.{file_docs, indexes_of}
-use Rattle.shard_search.specs.Unions.{raised_segment, raised_term}
+use Rattle.index_model.specs.Unions.{raised_segment, raised_term}
 
 module _ (files : List FileView) where
   -- behind the last part there is no term

@@ -4,7 +4,7 @@ use Rattle.index_model.specs.Index.{SegmentData, TermData}
 use Rattle.index_layout.specs.View.{FileView}
 use Rattle.shard_search.proofs.Ranges.{range_cons, range_none}
 use Rattle.shard_search.proofs.Merges.{takes_first, takes_second, takes_both}
-use Rattle.shard_search.specs.Merging.{joined_segment, merged_segments, segment_cmp}
+use Rattle.index_model.specs.Merging.{joined_segment, merged_segments, segment_cmp}
 use Rattle.shard_search.specs.Private.Heads.{head_order}
 use Rattle.shard_search.specs.Private.Tables.{Grows, IsSpan, IsTable, row_segment, span_segments, told_segments, told_terms}
 use Rattle.shard_search.specs.declared.rows.SegmentRow.{SegmentRow}

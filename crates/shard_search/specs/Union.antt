@@ -4,10 +4,9 @@ use Rattle.std.specs.List.{flat_map}
 use Rattle.index_model.specs.Index.{IndexData}
 use Rattle.index_layout.specs.View.{FileView}
 use Rattle.index_file.specs.Giving.{Gives}
-use Rattle.shard_search.specs.Merging.{union_terms}
 use Rattle.shard_search.specs.Parts.{base_of, file_at, pieces_docs}
 use Rattle.shard_search.specs.Sums.{file_docs, indexes_of}
-use Rattle.shard_search.specs.Unions.{union_names}
+use Rattle.index_model.specs.Unions.{union_of}
 use Rattle.shard_search.specs.declared.cursor.ShardCursor.{ShardCursor}
 use Rattle.shard_search.specs.declared.rows.PartSegment.{PartSegment}
 
@@ -15,10 +14,6 @@ use Rattle.shard_search.specs.declared.rows.PartSegment.{PartSegment}
 pub record UnionView : Type 0 where
   pub files : List FileView
   pub pieces : List PartSegment
-
--- STANDS FOR union_of of index_model
-abbrev pub union_of : List IndexData → IndexData
-union_of parts = record { names = union_names parts; terms = union_terms 0 parts }
 
 -- the index of several files as one
 unfoldable pub union_index : UnionView → IndexData

@@ -1,10 +1,10 @@
 ghost use Rattle.std.specs.Prelude.{◌≡◌, ◌<◌, ◌≤◌, ◌++◌, ◌∷◌, [], map, take, length, IfOk, OnOk};
 ghost use Rattle.index_model.specs.Querying.{segments_at};
 ghost use Rattle.index_file.specs.Places.{term_at};
-ghost use Rattle.shard_search.specs.Merging.{union_terms};
+ghost use Rattle.index_model.specs.Merging.{union_terms};
 ghost use Rattle.shard_search.specs.Parts.{base_of, index_at};
 ghost use Rattle.shard_search.specs.Sums.{indexes_of};
-ghost use Rattle.shard_search.specs.Unions.{raised_segment, raised_term};
+ghost use Rattle.index_model.specs.Unions.{raised_segment, raised_term};
 ghost use Rattle.shard_search.specs.Private.Tables.{Grows, GrowsTerm, IsTable, told_terms};
 
 use crate::joining::merge_tables;

@@ -1,7 +1,7 @@
 ghost use Rattle.std.specs.Prelude.{◌≡◌, ◌≢◌, ◌<◌, ◌≤◌, ◌+◌, ◌-◌, ◌⊎◌, ◌++◌, ◌∷◌, [], List, length, drop, IfOk, OnOk};
 ghost use Rattle.index_layout.specs.View.{FileView};
 ghost use Rattle.index_file.specs.Places.{term_at};
-ghost use Rattle.shard_search.specs.Merging.{merged_segments, merged_terms, segment_cmp, term_cmp};
+ghost use Rattle.index_model.specs.Merging.{merged_segments, merged_terms, segment_cmp, term_cmp};
 ghost use Rattle.shard_search.specs.Parts.{index_at};
 ghost use Rattle.shard_search.specs.Private.Heads.{head_order};
 ghost use Rattle.shard_search.specs.Private.Tables.{Grows, GrowsTerm, IsSpan, IsTable, IsTermRow, row_term, span_segments, told_terms};

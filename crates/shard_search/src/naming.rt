@@ -2,7 +2,7 @@ ghost use Rattle.std.specs.Prelude.{◌≡◌, ◌<◌, length, slice_get};
 ghost use Rattle.shard_search.specs.Parts.{file_at};
 ghost use Rattle.shard_search.specs.Sums.{file_docs, indexes_of};
 ghost use Rattle.shard_search.specs.Union.{union_index};
-ghost use Rattle.shard_search.specs.Unions.{union_names};
+ghost use Rattle.index_model.specs.Unions.{union_names};
 
 use crate::shards::Shards;
 use index_file::IndexFile;

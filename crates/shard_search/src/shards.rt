@@ -1,21 +1,18 @@
-ghost use Rattle.std.specs.Prelude.{ℕ, ◌≡◌, ◌<◌, ◌≤◌, ◌+◌, length, slice_get, slice_index, slice_range, All, IfOk};
+ghost use Rattle.std.specs.Prelude.{◌≡◌, ◌≤◌, length, All, IfOk};
 ghost use Rattle.std.specs.List.{sum_by};
-ghost use Rattle.jass_base.specs.declared.limits.TheConstants.{MOST_DOCUMENTS, MOST_POSTINGS};
-ghost use Rattle.index_model.specs.Querying.{segments_at};
-ghost use Rattle.index_file.specs.Places.{segment_at};
-ghost use Rattle.shard_search.specs.Parts.{base_of};
+ghost use Rattle.jass_base.specs.declared.limits.TheConstants.{MOST_DOCUMENTS};
+ghost use Rattle.index_layout.specs.View.{IsFileView};
 ghost use Rattle.shard_search.specs.Sums.{Fits, file_docs};
-ghost use Rattle.shard_search.specs.Parts.{pieces_docs};
-ghost use Rattle.shard_search.specs.Union.{Leaves, union_index};
 ghost use Rattle.shard_search.specs.Private.Standing.{AreBases};
 
 use crate::building::union_table;
-use crate::cursor::ShardCursor;
-use crate::rows::SegmentRow;
 use crate::stop::ShardStop;
 use crate::sums::{check_documents, check_postings};
 use crate::table::Table;
 use index_file::IndexFile;
+use index_model::union_laws::{
+    a_union_has_the_entries_of_its_parts, a_union_is_well_formed, a_union_merges_its_parts,
+};
 use jass_base::{NoMemory, Row};
 use std::alloc::Global;
 use std::marker::Model;
@@ -49,8 +46,12 @@ impl Shards {
         ensures fits { Fits parts result }
     {
         let files = parts.as_slice();
+        a_union_merges_its_parts();
+        a_union_is_well_formed();
+        a_union_has_the_entries_of_its_parts();
         check_documents(files)?;
         check_postings(files)?;
+        are_checked(files);
         let Ok((bases, docs)) = bases_of(alloc, files) else {
             return Err(ShardStop::NoMemory);
         };
@@ -63,6 +64,15 @@ impl Shards {
             docs,
             table,
         })
+    }
+}
+
+/// What was checked when the parts were opened: a caller learns it by the call.
+fn are_checked(parts: &[IndexFile])
+    ensures { All IsFileView parts.now }
+{
+    'parts: for i in 0..parts.len() {
+        parts[i].is_checked();
     }
 }
 

@@ -2,8 +2,8 @@ ghost use Rattle.std.specs.Prelude.{◌≡◌, ◌<◌, ◌+◌, ◌++◌, ◌�
 ghost use Rattle.index_model.specs.Querying.{segments_at};
 ghost use Rattle.index_file.specs.Places.{segment_at};
 ghost use Rattle.shard_search.specs.Parts.{IsPartSegment, base_of, index_at};
-ghost use Rattle.shard_search.specs.Merging.{joined_segment};
-ghost use Rattle.shard_search.specs.Unions.{raised_segment};
+ghost use Rattle.index_model.specs.Merging.{joined_segment};
+ghost use Rattle.index_model.specs.Unions.{raised_segment};
 ghost use Rattle.shard_search.specs.Private.Tables.{Grows, IsSegmentRow, IsTable, row_segment};
 
 use crate::rows::{PartSegment, SegmentRow, Span, TermRow};

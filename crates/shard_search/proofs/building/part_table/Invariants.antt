@@ -1,6 +1,6 @@
 use Rattle.std.proofs.Common.{◌≡◌, map, take}
 use Rattle.shard_search.specs.Parts.{base_of, index_at}
-use Rattle.shard_search.specs.Unions.{raised_term}
+use Rattle.index_model.specs.Unions.{raised_term}
 use Rattle.shard_search.specs.Private.Tables.{IsTable, told_terms}
 use Rattle.shard_search.proofs.building.part_table.Given as goal
 

@@ -1,5 +1,5 @@
 use Rattle.std.proofs.Common.{◌≡◌, ◌≤◌, drop, length}
-use Rattle.shard_search.specs.Merging.{union_terms}
+use Rattle.index_model.specs.Merging.{union_terms}
 use Rattle.shard_search.specs.Parts.{base_of}
 use Rattle.shard_search.specs.Sums.{indexes_of}
 use Rattle.shard_search.specs.Private.Tables.{IsTable, told_terms}

@@ -2,7 +2,7 @@ use Rattle.std.proofs.Common.{◌≡◌, ◌≤◌, ◌<◌, ◌+◌, [], ◌++�
 use Rattle.index_model.specs.Index.{TermData}
 use Rattle.shard_search.proofs.Joins.{all_joined, both_join, copy_grows, first_joins, join_grows, second_joins, terms_counted}
 use Rattle.shard_search.proofs.Tables.{nothing_stands, nothing_told}
-use Rattle.shard_search.specs.Merging.{merged_terms}
+use Rattle.index_model.specs.Merging.{merged_terms}
 use Rattle.shard_search.specs.Private.Tables.{told_terms}
 use Rattle.shard_search.proofs.joining.merge_tables.Goals as goal
 

@@ -1,6 +1,6 @@
 use Rattle.std.proofs.Common.{◌≡◌, ◌<◌, drop, length, slice_get}
 use Rattle.shard_search.specs.Sums.{indexes_of}
-use Rattle.shard_search.specs.Unions.{union_names}
+use Rattle.index_model.specs.Unions.{union_names}
 use Rattle.shard_search.proofs.naming.place_of.Given as goal
 
 abbrev pub invariant-parts : goal.invariant-parts

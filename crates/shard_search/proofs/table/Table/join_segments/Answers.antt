@@ -4,7 +4,7 @@ use Rattle.index_model.specs.Index.{SegmentData}
 use Rattle.shard_search.proofs.Growing.{segment_grows}
 use Rattle.shard_search.proofs.Pieces.{two_pieces}
 use Rattle.shard_search.proofs.Tables.{row_counts, row_is, row_pieces, row_some}
-use Rattle.shard_search.specs.Merging.{joined_segment}
+use Rattle.index_model.specs.Merging.{joined_segment}
 use Rattle.shard_search.specs.Parts.{IsPartSegment, pieces_docs}
 use Rattle.shard_search.specs.Private.Tables.{row_segment}
 use Rattle.shard_search.specs.declared.rows.PartSegment.{PartSegment}

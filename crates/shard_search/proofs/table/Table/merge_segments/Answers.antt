@@ -1,6 +1,6 @@
 use Rattle.std.proofs.Common.{List, [], ◌∷◌, slice_index_or, sym, subst, Less, Equal, Greater, ◌≢◌, rules}
 use Rattle.shard_search.proofs.Spans.{both_move, ends, first_moves, second_moves}
-use Rattle.shard_search.specs.Merging.{joined_segment}
+use Rattle.index_model.specs.Merging.{joined_segment}
 use Rattle.shard_search.specs.Private.Tables.{Grows, row_segment}
 use Rattle.shard_search.specs.declared.rows.SegmentRow.{SegmentRow}
 use Rattle.shard_search.proofs.table.Table.merge_segments.Goals as goal

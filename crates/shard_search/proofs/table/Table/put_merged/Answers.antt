@@ -1,5 +1,5 @@
 use Rattle.shard_search.proofs.Growing.{term_grows}
-use Rattle.shard_search.specs.Merging.{merged_segments}
+use Rattle.index_model.specs.Merging.{merged_segments}
 use Rattle.shard_search.specs.Private.Tables.{span_segments}
 use Rattle.shard_search.proofs.table.Table.put_merged.Goals as goal
 

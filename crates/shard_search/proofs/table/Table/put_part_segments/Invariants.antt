@@ -1,7 +1,7 @@
 use Rattle.std.proofs.Common.{map, take}
 use Rattle.index_model.specs.Querying.{segments_at}
 use Rattle.shard_search.specs.Parts.{base_of, index_at}
-use Rattle.shard_search.specs.Unions.{raised_segment}
+use Rattle.index_model.specs.Unions.{raised_segment}
 use Rattle.shard_search.specs.Private.Tables.{Grows}
 use Rattle.shard_search.proofs.table.Table.put_part_segments.Given as goal
 

@@ -2,7 +2,7 @@ use Rattle.std.proofs.Common.{map}
 use Rattle.index_model.specs.Querying.{segments_at}
 use Rattle.shard_search.proofs.Growing.{term_grows}
 use Rattle.shard_search.specs.Parts.{base_of, index_at}
-use Rattle.shard_search.specs.Unions.{raised_segment}
+use Rattle.index_model.specs.Unions.{raised_segment}
 use Rattle.shard_search.proofs.table.Table.put_part_term.Goals as goal
 
 pub returns : goal.returns
