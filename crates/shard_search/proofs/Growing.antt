@@ -31,10 +31,10 @@ module _ (files : List FileView) (old : Table) (stands : IsTable files old) wher
 
     is_row : IsSegmentRow files (old.pieces ++ ps) row
     is_row = record {
-        some = (let size = length-append old.pieces ps in omega (arith, size, some));
-        within = omega arith;
-        count = counts ∙ ap (λ (s : SegmentData). length s.docs) (sym here);
-      }
+      some = (let size = length-append old.pieces ps in omega (arith, size, some));
+      within = omega arith;
+      count = counts ∙ ap (λ (s : SegmentData). length s.docs) (sym here);
+    }
 
     more_segments : told_segments files after ≡ told_segments files old ++ (record { impact = impact; docs = pieces_docs files ps } ∷ [])
     unfolding told_segments
@@ -48,11 +48,11 @@ module _ (files : List FileView) (old : Table) (stands : IsTable files old) wher
 
     stands_after : IsTable files after
     stands_after = record {
-        pieces = All-append (IsPartSegment files) old.pieces ps stands.pieces are;
-        segments = All-push (IsSegmentRow files (old.pieces ++ ps)) old.segments row
+      pieces = All-append (IsPartSegment files) old.pieces ps stands.pieces are;
+      segments = All-push (IsSegmentRow files (old.pieces ++ ps)) old.segments row
           (All-weaker (IsSegmentRow files old.pieces) (IsSegmentRow files (old.pieces ++ ps)) (still_row files old.pieces ps) old.segments stands.segments) is_row;
-        terms = All-weaker (IsTermRow files old.segments) (IsTermRow files (old.segments ++ row ∷ [])) (still_term files old ps (row ∷ []) stands) old.terms stands.terms;
-      }
+      terms = All-weaker (IsTermRow files old.segments) (IsTermRow files (old.segments ++ row ∷ [])) (still_term files old ps (row ∷ []) stands) old.terms stands.terms;
+    }
 
     -- a segment that joins some part segments was put behind the others
     pub segment_grows : (new : Table) (mid : List PartSegment) (from : ℕ) (x : SegmentData) → mid ≡ old.pieces ++ ps → new.pieces ≡ mid → from ≡ length old.pieces
@@ -63,17 +63,17 @@ module _ (files : List FileView) (old : Table) (stands : IsTable files old) wher
     segment_grows new mid from x put pieces start segments terms is =
         subst (λ (s : SegmentData). Grows files old new (s ∷ [])) is
         (subst (λ (t : Table). Grows files old t (record { impact = impact; docs = pieces_docs files ps } ∷ []))
-          (table_is new (old.pieces ++ ps) (old.segments ++ row ∷ []) old.terms (pieces ∙ put)
-            (segments ∙ ap₂ (λ (f : ℕ) (m : List PartSegment). old.segments ++ (record { impact = impact; count = count; from = f; to = length m }) ∷ []) start put) terms)
-          (record { segments = more_segments; terms = same_terms; stands = stands_after }))
+        (table_is new (old.pieces ++ ps) (old.segments ++ row ∷ []) old.terms (pieces ∙ put)
+        (segments ∙ ap₂ (λ (f : ℕ) (m : List PartSegment). old.segments ++ (record { impact = impact; count = count; from = f; to = length m }) ∷ []) start put) terms)
+        (record { segments = more_segments; terms = same_terms; stands = stands_after }))
 
 -- one growth behind another
 pub grows_on : (files : List FileView) (a b c : Table) (first second : List SegmentData) → Grows files a b first → Grows files b c second → Grows files a c (first ++ second)
 grows_on files a b c first second one two = record {
-    segments = two.segments ∙ ap (λ (l : List SegmentData). l ++ second) one.segments ∙ append_assoc (told_segments files a) first second;
-    terms = two.terms ∙ one.terms;
-    stands = two.stands;
-  }
+  segments = two.segments ∙ ap (λ (l : List SegmentData). l ++ second) one.segments ∙ append_assoc (told_segments files a) first second;
+  terms = two.terms ∙ one.terms;
+  stands = two.stands;
+}
 
 module _ (files : List FileView) (old mid : Table) (more : List SegmentData) (grows : Grows files old mid more) (part term : ℕ)
     (there : part < length files) (has : term < length (index_at files part).terms) where
@@ -115,10 +115,10 @@ module _ (files : List FileView) (old mid : Table) (more : List SegmentData) (gr
 
   row_stands : IsTermRow files mid.segments row_more
   row_stands = record {
-      part = there;
-      term = has;
-      span = record { order = (let size = length-append (told_segments files old) more in omega (arith, size, counted, first)); within = omega arith };
-    }
+    part = there;
+    term = has;
+    span = record { order = (let size = length-append (told_segments files old) more in omega (arith, size, counted, first)); within = omega arith };
+  }
 
   -- a term whose segments were put behind the others was put there itself
   pub term_grows : (new : Table) (from : ℕ) → from ≡ length old.segments → new.pieces ≡ mid.pieces → new.segments ≡ mid.segments
@@ -127,7 +127,7 @@ module _ (files : List FileView) (old mid : Table) (more : List SegmentData) (gr
   term_grows new from start pieces segments terms =
       subst (λ (t : Table). GrowsTerm files old t (record { term = term_at (index_at files part).terms term; segments = more }))
       (table_is new mid.pieces mid.segments (mid.terms ++ row_more ∷ []) pieces segments
-        (terms ∙ ap (λ (f : ℕ). mid.terms ++ (record { part = part; term = term; span = record { from = f; to = length mid.segments } }) ∷ []) start))
+      (terms ∙ ap (λ (f : ℕ). mid.terms ++ (record { part = part; term = term; span = record { from = f; to = length mid.segments } }) ∷ []) start))
       (record {
         terms = more_terms;
         stands = record { pieces = grows.stands.pieces; segments = grows.stands.segments; terms = All-push (IsTermRow files mid.segments) mid.terms row_more grows.stands.terms row_stands };

@@ -34,16 +34,20 @@ module _ (files : List FileView) where
   text_at t i d e inside = ap (λ (x : TermData). x.term) (term_told t i d e inside) ∙ text_told t (slice_index_or t.terms i d)
 
   -- a term whose segments are merged with none
-  pub copied : (t other : Table) (row : TermRow) → (let x : TermData = record { term = term_at (index_at files row.part).terms row.term;
-      segments = merged_segments (span_segments files t row.span) (span_segments files other (record { from = 0; to = 0 })) } in x) ≡ row_term files t row
+  pub copied : (t other : Table) (row : TermRow) → (let x : TermData = record {
+    term = term_at (index_at files row.part).terms row.term;
+    segments = merged_segments (span_segments files t row.span) (span_segments files other (record { from = 0; to = 0 }));
+  } in x) ≡ row_term files t row
   unfolding row_term
   copied t other row = ap (λ (ss : List SegmentData). (let x : TermData = record { term = term_at (index_at files row.part).terms row.term; segments = ss } in x))
       (ap (merged_segments (span_segments files t row.span)) (span_none files other (record { from = 0; to = 0 }) (omega arith))
-       ∙ merged_nothing segment_cmp joined_segment (span_segments files t row.span))
+      ∙ merged_nothing segment_cmp joined_segment (span_segments files t row.span))
 
   -- a term of two tables
-  pub joins : (first second : Table) (own other : TermRow) → (let x : TermData = record { term = term_at (index_at files own.part).terms own.term;
-      segments = merged_segments (span_segments files first own.span) (span_segments files second other.span) } in x) ≡ joined_term (row_term files first own) (row_term files second other)
+  pub joins : (first second : Table) (own other : TermRow) → (let x : TermData = record {
+    term = term_at (index_at files own.part).terms own.term;
+    segments = merged_segments (span_segments files first own.span) (span_segments files second other.span);
+  } in x) ≡ joined_term (row_term files first own) (row_term files second other)
   unfolding row_term
   joins first second own other = refl
 
@@ -82,8 +86,8 @@ module _ (first second : List TermData) (i j : ℕ) (now new : List TermData) (j
       let cons = next first i d some in
       step (slice_index_or first i d) (merged_terms (drop (i + 1) first) (drop j second)) grows
       (ap (λ (l : List TermData). merged_terms l (drop j second)) cons
-       ∙ takes_first term_cmp joined_term (slice_index_or first i d) (drop (i + 1) first) (drop j second)
-         (sym (ap (λ (l : List TermData). head_order term_cmp l (drop j second)) cons) ∙ less))
+      ∙ takes_first term_cmp joined_term (slice_index_or first i d) (drop (i + 1) first) (drop j second)
+      (sym (ap (λ (l : List TermData). head_order term_cmp l (drop j second)) cons) ∙ less))
 
   pub second_joins : (d : TermData) → j < length second → head_order term_cmp (drop i first) (drop j second) ≡ Greater
       → new ≡ now ++ slice_index_or second j d ∷ [] → Joining first second i (j + 1) new
@@ -91,8 +95,8 @@ module _ (first second : List TermData) (i j : ℕ) (now new : List TermData) (j
       let cons = next second j d some in
       step (slice_index_or second j d) (merged_terms (drop i first) (drop (j + 1) second)) grows
       (ap (merged_terms (drop i first)) cons
-       ∙ takes_second term_cmp joined_term (drop i first) (slice_index_or second j d) (drop (j + 1) second)
-         (sym (ap (head_order term_cmp (drop i first)) cons) ∙ greater))
+      ∙ takes_second term_cmp joined_term (drop i first) (slice_index_or second j d) (drop (j + 1) second)
+      (sym (ap (head_order term_cmp (drop i first)) cons) ∙ greater))
 
   pub both_join : (d : TermData) → i < length first → j < length second → head_order term_cmp (drop i first) (drop j second) ≡ Equal
       → new ≡ now ++ joined_term (slice_index_or first i d) (slice_index_or second j d) ∷ [] → Joining first second (i + 1) (j + 1) new
@@ -101,8 +105,8 @@ module _ (first second : List TermData) (i j : ℕ) (now new : List TermData) (j
       let two = next second j d more in
       step (joined_term (slice_index_or first i d) (slice_index_or second j d)) (merged_terms (drop (i + 1) first) (drop (j + 1) second)) grows
       (ap₂ merged_terms one two
-       ∙ takes_both term_cmp joined_term (slice_index_or first i d) (drop (i + 1) first) (slice_index_or second j d) (drop (j + 1) second)
-         (sym (ap₂ (head_order term_cmp) one two) ∙ equal))
+      ∙ takes_both term_cmp joined_term (slice_index_or first i d) (drop (i + 1) first) (slice_index_or second j d) (drop (j + 1) second)
+      (sym (ap₂ (head_order term_cmp) one two) ∙ equal))
 
 pub all_joined : (first second : List TermData) (i j : ℕ) (now : List TermData) → Joining first second i j now → length first ≤ i → length second ≤ j → now ≡ merged_terms first second
 all_joined first second i j now joining over out =
@@ -115,21 +119,25 @@ no_row = record { part = 0; term = 0; span = record { from = 0; to = 0 } }
 
 module _ (files : List FileView) (now new : Table) (e : TermData) where
   pub copy_grows : (t : Table) (rows : List TermRow) (i : ℕ) → rows ≡ t.terms → i < length t.terms
-      → GrowsTerm files now new (record { term = term_at (index_at files (slice_index_or rows i no_row).part).terms (slice_index_or rows i no_row).term;
-          segments = merged_segments (span_segments files t (slice_index_or rows i no_row).span) (span_segments files t (record { from = 0; to = 0 })) })
+      → GrowsTerm files now new (record {
+        term = term_at (index_at files (slice_index_or rows i no_row).part).terms (slice_index_or rows i no_row).term;
+        segments = merged_segments (span_segments files t (slice_index_or rows i no_row).span) (span_segments files t (record { from = 0; to = 0 }));
+      })
       → told_terms files new ≡ told_terms files now ++ slice_index_or (told_terms files t) i e ∷ []
   copy_grows t rows i same inside grows =
       grows.terms
       ∙ ap (λ (x : TermData). told_terms files now ++ x ∷ [])
-        (copied files t t (slice_index_or rows i no_row) ∙ ap (λ (l : List TermRow). row_term files t (slice_index_or l i no_row)) same ∙ sym (term_told files t i no_row e inside))
+      (copied files t t (slice_index_or rows i no_row) ∙ ap (λ (l : List TermRow). row_term files t (slice_index_or l i no_row)) same ∙ sym (term_told files t i no_row e inside))
 
   pub join_grows : (first second : Table) (rows others : List TermRow) (i j : ℕ) → rows ≡ first.terms → others ≡ second.terms → i < length first.terms → j < length second.terms
-      → GrowsTerm files now new (record { term = term_at (index_at files (slice_index_or rows i no_row).part).terms (slice_index_or rows i no_row).term;
-          segments = merged_segments (span_segments files first (slice_index_or rows i no_row).span) (span_segments files second (slice_index_or others j no_row).span) })
+      → GrowsTerm files now new (record {
+        term = term_at (index_at files (slice_index_or rows i no_row).part).terms (slice_index_or rows i no_row).term;
+        segments = merged_segments (span_segments files first (slice_index_or rows i no_row).span) (span_segments files second (slice_index_or others j no_row).span);
+      })
       → told_terms files new ≡ told_terms files now ++ joined_term (slice_index_or (told_terms files first) i e) (slice_index_or (told_terms files second) j e) ∷ []
   join_grows first second rows others i j same alike inside there grows =
       grows.terms
       ∙ ap (λ (x : TermData). told_terms files now ++ x ∷ [])
-        (joins files first second (slice_index_or rows i no_row) (slice_index_or others j no_row)
-          ∙ ap₂ (λ (l m : List TermRow). joined_term (row_term files first (slice_index_or l i no_row)) (row_term files second (slice_index_or m j no_row))) same alike
-          ∙ ap₂ joined_term (sym (term_told files first i no_row e inside)) (sym (term_told files second j no_row e there)))
+      (joins files first second (slice_index_or rows i no_row) (slice_index_or others j no_row)
+      ∙ ap₂ (λ (l m : List TermRow). joined_term (row_term files first (slice_index_or l i no_row)) (row_term files second (slice_index_or m j no_row))) same alike
+      ∙ ap₂ joined_term (sym (term_told files first i no_row e inside)) (sym (term_told files second j no_row e there)))

@@ -1,4 +1,5 @@
 pub mod Blocks
+pub mod Cursors
 pub mod Growing
 pub mod Joins
 pub mod Merges

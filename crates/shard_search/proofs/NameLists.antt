@@ -14,8 +14,8 @@ module _ (files : List FileView) (i : ℕ) (inside : i < length files) where
       let d : FileView = record { index = record { names = []; terms = [] }; codecs = [] } in
       drop-cons (indexes_of files) i d.index (let size = length-map files (λ (f : FileView). f.index) in omega (arith, size, inside))
       ∙ ap₂ (λ (x : IndexData) (xs : List IndexData). x ∷ xs)
-        (get_or-map (λ (f : FileView). f.index) files i d d.index inside)
-        (ap (λ (n : ℕ). drop n (indexes_of files)) (let one : suc i ≡ i + 1 = omega arith in one))
+      (get_or-map (λ (f : FileView). f.index) files i d d.index inside)
+      (ap (λ (n : ℕ). drop n (indexes_of files)) (let one : suc i ≡ i + 1 = omega arith in one))
 
   pub names_parted : union_names (drop i (indexes_of files)) ≡ (index_at files i).names ++ union_names (drop (i + 1) (indexes_of files))
   names_parted = ap union_names indexes_parted

@@ -18,8 +18,8 @@ module _ (files : List FileView) where
   -- one part more in front
   pub part_more : (part : ℕ) → part < length files
       → union_terms (base_of files part) (drop part (indexes_of files))
-        ≡ merged_terms (map (raised_term (base_of files part)) (index_at files part).terms) (union_terms (base_of files (part + 1)) (drop (part + 1) (indexes_of files)))
+      ≡ merged_terms (map (raised_term (base_of files part)) (index_at files part).terms) (union_terms (base_of files (part + 1)) (drop (part + 1) (indexes_of files)))
   part_more part inside =
       ap (union_terms (base_of files part)) (indexes_parted files part inside)
       ∙ ap (λ (base : ℕ). merged_terms (map (raised_term (base_of files part)) (index_at files part).terms) (union_terms base (drop (part + 1) (indexes_of files))))
-        (sym (sum_by_more file_docs files part (record { index = record { names = []; terms = [] }; codecs = [] }) inside))
+      (sym (sum_by_more file_docs files part (record { index = record { names = []; terms = [] }; codecs = [] }) inside))

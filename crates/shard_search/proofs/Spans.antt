@@ -44,7 +44,7 @@ module _ (files : List FileView) where
 
     pub both_next : (d : SegmentRow) → IsSpan first.segments own → own.from < own.to → IsSpan second.segments other → other.from < other.to
         → head_order segment_cmp (span_segments files first own) (span_segments files second other)
-          ≡ nat_cmp (slice_index_or second.segments other.from d).impact (slice_index_or first.segments own.from d).impact
+        ≡ nat_cmp (slice_index_or second.segments other.from d).impact (slice_index_or first.segments own.from d).impact
     both_next d is some has more =
         ap₂ (head_order segment_cmp) (span_cons first own d is some) (span_cons second other d has more)
         ∙ ap₂ nat_cmp (same_impact second (slice_index_or second.segments other.from d)) (same_impact first (slice_index_or first.segments own.from d))
@@ -63,24 +63,24 @@ module _ (files : List FileView) where
       (merging : Merging first second own_all other_all entry own other now) where
     moved : (own_next other_next : Span) (x : SegmentData) → Grows files now new (x ∷ [])
         → merged_segments (span_segments files first own) (span_segments files second other)
-          ≡ x ∷ merged_segments (span_segments files first own_next) (span_segments files second other_next)
+        ≡ x ∷ merged_segments (span_segments files first own_next) (span_segments files second other_next)
         → IsSpan first.segments own_next → IsSpan second.segments other_next
         → Merging first second own_all other_all entry own_next other_next new
     moved own_next other_next x grows step mine theirs = record {
-        left =
+      left =
           ap (λ (l : List SegmentData). l ++ merged_segments (span_segments files first own_next) (span_segments files second other_next)) grows.segments
           ∙ append_assoc (told_segments files now) (x ∷ []) (merged_segments (span_segments files first own_next) (span_segments files second other_next))
           ∙ ap (λ (l : List SegmentData). told_segments files now ++ l) (sym step)
           ∙ merging.left;
-        terms = grows.terms ∙ merging.terms;
-        stands = grows.stands;
-        own_is = mine;
-        other_is = theirs;
-      }
+      terms = grows.terms ∙ merging.terms;
+      stands = grows.stands;
+      own_is = mine;
+      other_is = theirs;
+    }
 
     order_at : (d : SegmentRow) → own.from < own.to
         → head_order segment_cmp (span_segments files first own) (span_segments files second other)
-          ≡ head_order segment_cmp (row_segment files first.pieces (slice_index_or first.segments own.from d) ∷ span_segments files first (behind own)) (span_segments files second other)
+        ≡ head_order segment_cmp (row_segment files first.pieces (slice_index_or first.segments own.from d) ∷ span_segments files first (behind own)) (span_segments files second other)
     order_at d some = ap (λ (l : List SegmentData). head_order segment_cmp l (span_segments files second other)) (span_cons first own d merging.own_is some)
 
     pub first_moves : (d : SegmentRow) → own.from < own.to
@@ -90,8 +90,8 @@ module _ (files : List FileView) where
     first_moves d some less grows =
         moved (behind own) other (row_segment files first.pieces (slice_index_or first.segments own.from d)) grows
         (ap (λ (l : List SegmentData). merged_segments l (span_segments files second other)) (span_cons first own d merging.own_is some)
-          ∙ takes_first segment_cmp joined_segment (row_segment files first.pieces (slice_index_or first.segments own.from d)) (span_segments files first (behind own)) (span_segments files second other)
-            (sym (order_at d some) ∙ less))
+        ∙ takes_first segment_cmp joined_segment (row_segment files first.pieces (slice_index_or first.segments own.from d)) (span_segments files first (behind own)) (span_segments files second other)
+        (sym (order_at d some) ∙ less))
         (behind_is first own merging.own_is some) merging.other_is
 
     pub second_moves : (d : SegmentRow) → other.from < other.to
@@ -102,8 +102,8 @@ module _ (files : List FileView) where
         let cons = span_cons second other d merging.other_is some in
         moved own (behind other) (row_segment files second.pieces (slice_index_or second.segments other.from d)) grows
         (ap (merged_segments (span_segments files first own)) cons
-          ∙ takes_second segment_cmp joined_segment (span_segments files first own) (row_segment files second.pieces (slice_index_or second.segments other.from d)) (span_segments files second (behind other))
-            (sym (ap (head_order segment_cmp (span_segments files first own)) cons) ∙ greater))
+        ∙ takes_second segment_cmp joined_segment (span_segments files first own) (row_segment files second.pieces (slice_index_or second.segments other.from d)) (span_segments files second (behind other))
+        (sym (ap (head_order segment_cmp (span_segments files first own)) cons) ∙ greater))
         merging.own_is (behind_is second other merging.other_is some)
 
     pub both_move : (d : SegmentRow) → own.from < own.to → other.from < other.to
@@ -115,9 +115,9 @@ module _ (files : List FileView) where
         let two = span_cons second other d merging.other_is more in
         moved (behind own) (behind other) _ grows
         (ap₂ merged_segments one two
-          ∙ takes_both segment_cmp joined_segment (row_segment files first.pieces (slice_index_or first.segments own.from d)) (span_segments files first (behind own))
-            (row_segment files second.pieces (slice_index_or second.segments other.from d)) (span_segments files second (behind other))
-            (sym (ap₂ (head_order segment_cmp) one two) ∙ equal))
+        ∙ takes_both segment_cmp joined_segment (row_segment files first.pieces (slice_index_or first.segments own.from d)) (span_segments files first (behind own))
+        (row_segment files second.pieces (slice_index_or second.segments other.from d)) (span_segments files second (behind other))
+        (sym (ap₂ (head_order segment_cmp) one two) ∙ equal))
         (behind_is first own merging.own_is some) (behind_is second other merging.other_is more)
 
   module _ (first second : Table) (own_all other_all : Span) (entry : Table) where
@@ -127,10 +127,10 @@ module _ (files : List FileView) where
     pub ends : (own other : Span) (now : Table) → Merging first second own_all other_all entry own other now → own.to ≤ own.from → other.to ≤ other.from
         → Grows files entry now (merged_segments (span_segments files first own_all) (span_segments files second other_all))
     ends own other now merging over out = record {
-        segments =
+      segments =
           sym (append-nil (told_segments files now))
           ∙ ap (λ (l : List SegmentData). told_segments files now ++ l) (sym (ap₂ merged_segments (span_none first own over) (span_none second other out)))
           ∙ merging.left;
-        terms = merging.terms;
-        stands = merging.stands;
-      }
+      terms = merging.terms;
+      stands = merging.stands;
+    }

@@ -43,17 +43,17 @@ module _ (files : List FileView) where
 
   pub still_row : (pieces more : List PartSegment) (row : SegmentRow) → IsSegmentRow files pieces row → IsSegmentRow files (pieces ++ more) row
   still_row pieces more row is = record {
-      some = is.some;
-      within = (let size = length-append pieces more in omega (arith, size, is.within));
-      count = is.count ∙ ap (λ (s : SegmentData). length s.docs) (sym (row_stays pieces more row is));
-    }
+    some = is.some;
+    within = (let size = length-append pieces more in omega (arith, size, is.within));
+    count = is.count ∙ ap (λ (s : SegmentData). length s.docs) (sym (row_stays pieces more row is));
+  }
 
   pub rows_stay : (pieces more : List PartSegment) (rows : List SegmentRow) → All (IsSegmentRow files pieces) rows
       → map (row_segment files (pieces ++ more)) rows ≡ map (row_segment files pieces) rows
   rows_stay pieces more rows are =
       map_alike (row_segment files (pieces ++ more)) (row_segment files pieces) rows
       (all_weaker (IsSegmentRow files pieces) (λ row. row_segment files (pieces ++ more) row ≡ row_segment files pieces row) (row_stays pieces more) rows
-        (recursion_from_All (IsSegmentRow files pieces) rows are))
+      (recursion_from_All (IsSegmentRow files pieces) rows are))
 
   -- the segment of part segments that were put behind the others
   pub row_behind : (pieces more : List PartSegment) (impact count : ℕ) → row_segment files (pieces ++ more) (record { impact = impact; count = count; from = length pieces; to = length (pieces ++ more) }) ≡ record { impact = impact; docs = pieces_docs files more }
@@ -72,7 +72,7 @@ module _ (files : List FileView) where
     span_stays terms span is =
         ap (map (row_segment files (old.pieces ++ ps))) (slice_stays old.segments rows span.from span.to is.order is.within)
         ∙ rows_stay old.pieces ps (slice_range old.segments span.from span.to)
-          (All-take (IsSegmentRow files old.pieces) (span.to - span.from) (drop span.from old.segments) (All-drop (IsSegmentRow files old.pieces) span.from old.segments stands.segments))
+        (All-take (IsSegmentRow files old.pieces) (span.to - span.from) (drop span.from old.segments) (All-drop (IsSegmentRow files old.pieces) span.from old.segments stands.segments))
 
     term_stays : (terms : List TermRow) (row : TermRow) → IsTermRow files old.segments row → row_term files (grown terms) row ≡ row_term files old row
     unfolding row_term
@@ -82,23 +82,23 @@ module _ (files : List FileView) where
     terms_stay terms =
         map_alike (row_term files (grown terms)) (row_term files old) old.terms
         (all_weaker (IsTermRow files old.segments) (λ row. row_term files (grown terms) row ≡ row_term files old row) (term_stays terms) old.terms
-          (recursion_from_All (IsTermRow files old.segments) old.terms stands.terms))
+        (recursion_from_All (IsTermRow files old.segments) old.terms stands.terms))
 
     pub still_term : (row : TermRow) → IsTermRow files old.segments row → IsTermRow files (old.segments ++ rows) row
     still_term row is = record {
-        part = is.part;
-        term = is.term;
-        span = record { order = is.span.order; within = (let size = length-append old.segments rows in omega (arith, size, is.span.within)) };
-      }
+      part = is.part;
+      term = is.term;
+      span = record { order = is.span.order; within = (let size = length-append old.segments rows in omega (arith, size, is.span.within)) };
+    }
 
   -- ---- a table with no rows
 
   pub nothing_stands : (t : Table) → t.pieces ≡ [] → t.segments ≡ [] → t.terms ≡ [] → IsTable files t
   nothing_stands t pieces segments terms = record {
-      pieces = subst (All (IsPartSegment files)) (sym pieces) (All-nil (IsPartSegment files));
-      segments = subst (All (IsSegmentRow files t.pieces)) (sym segments) (All-nil (IsSegmentRow files t.pieces));
-      terms = subst (All (IsTermRow files t.segments)) (sym terms) (All-nil (IsTermRow files t.segments));
-    }
+    pieces = subst (All (IsPartSegment files)) (sym pieces) (All-nil (IsPartSegment files));
+    segments = subst (All (IsSegmentRow files t.pieces)) (sym segments) (All-nil (IsSegmentRow files t.pieces));
+    terms = subst (All (IsTermRow files t.segments)) (sym terms) (All-nil (IsTermRow files t.segments));
+  }
 
   pub nothing_told : (t : Table) → t.terms ≡ [] → told_terms files t ≡ []
   unfolding told_terms

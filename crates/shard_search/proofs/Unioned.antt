@@ -21,9 +21,9 @@ module _ (files : List FileView) (checked : All IsFileView files) where
   pub can_search : IsWellFormed (union_of (indexes_of files)) → index_postings (union_of (indexes_of files)) ≡ sum_by index_postings (indexes_of files)
       → sum_by file_postings files ≤ MOST_POSTINGS → IsSearchable (union_of (indexes_of files))
   can_search well sizes few = record {
-      is_well_formed = well;
-      postings = subst (λ (n : ℕ). n ≤ MOST_POSTINGS) (sym (sizes ∙ sum_map index_postings (λ (f : FileView). f.index) files)) few;
-    }
+    is_well_formed = well;
+    postings = subst (λ (n : ℕ). n ≤ MOST_POSTINGS) (sym (sizes ∙ sum_map index_postings (λ (f : FileView). f.index) files)) few;
+  }
 
 -- the terms and the names that callers see
 pub index_terms : (files : List FileView) (pieces : List PartSegment) → (union_index (record { files = files; pieces = pieces })).terms ≡ (union_of (indexes_of files)).terms

@@ -43,18 +43,13 @@ impl Table {
     }
 
     /// Puts a part's term behind the others.
-    fn put_part_term(
-        &mut self,
-        parts: &[IndexFile],
-        part: u32,
-        term: u32,
-    ) -> Result<(), NoMemory>
+    fn put_part_term(&mut self, parts: &[IndexFile], part: u32, term: u32) -> Result<(), NoMemory>
         requires stands { IsTable parts.now self.old }
         requires part { part < length parts.now }
         requires term { term < length (index_at parts.now part).terms }
         ensures { OnOk result (GrowsTerm parts.now self.old self.new (record {
-            term = term_at (index_at parts.now part).terms term;
-            segments = map (raised_segment (base_of parts.now part)) (segments_at (index_at parts.now part).terms term);
+          term = term_at (index_at parts.now part).terms term;
+          segments = map (raised_segment (base_of parts.now part)) (segments_at (index_at parts.now part).terms term);
         })) }
     {
         let from = self.segments.len();

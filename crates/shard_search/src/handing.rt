@@ -1,4 +1,4 @@
-ghost use Rattle.std.specs.Prelude.{ℕ, ◌≡◌, ◌<◌, ◌≤◌, ◌+◌, ◌++◌, ◌∷◌, [], List, length, slice_range, take};
+ghost use Rattle.std.specs.Prelude.{ℕ, ◌≡◌, ◌≢◌, ◌<◌, ◌≤◌, ◌+◌, ◌++◌, ◌∷◌, [], List, length, slice_range, take};
 ghost use Rattle.index_model.specs.Querying.{segments_at};
 ghost use Rattle.index_file.specs.Places.{segment_at};
 ghost use Rattle.index_file.specs.Sources.{HandsOut};
@@ -48,6 +48,21 @@ impl Shards {
         }
     }
 
+    /// The cursor at the next part segment, where it has given all of the one before.
+    fn ready(&self, cursor: ShardCursor) -> ShardCursor
+        requires stands { (docs : List ℕ) × Leaves self.now cursor docs }
+        ensures leaves { (docs : List ℕ) → Leaves self.now cursor docs → Leaves self.now result docs }
+        ensures some { (docs : List ℕ) → Leaves self.now cursor docs → docs ≢ [] → 1 ≤ result.left }
+    {
+        if cursor.left > 0 {
+            return cursor;
+        }
+        if cursor.next >= cursor.end {
+            return cursor;
+        }
+        self.begin(cursor.next, cursor.end)
+    }
+
     /// The document of some part segments that have one.
     fn only_doc<L: Ledger>(&self, from: u32, to: u32, steps: &mut Steps<L>) -> u32
         requires some { from < to }
@@ -92,18 +107,19 @@ impl Source for Shards {
 
     ghost left = { Leaves };
 
-    fn is_searchable(&self) {}
+    fn is_searchable(&self) {
+        let _ = &self.docs;
+    }
 
     fn docs(&self) -> u32 {
         self.docs
     }
 
     fn segments(&self, t: u32) -> u32 {
-        let terms = self.table.terms.as_slice();
-        if t as usize >= terms.len() {
+        if t >= self.terms {
             return 0;
         }
-        let span = terms[t as usize].span;
+        let span = self.table.terms.as_slice()[t as usize].span;
         span.to - span.from
     }
 
@@ -131,9 +147,7 @@ impl Source for Shards {
         block: &mut [u32; 128],
         steps: &mut Steps<L>,
     ) -> Piece<'_> {
-        if cursor.left == 0 && cursor.next < cursor.end {
-            *cursor = self.begin(cursor.next, cursor.end);
-        }
+        *cursor = self.ready(*cursor);
         Piece::Block {
             count: self.give(cursor, block, steps),
         }

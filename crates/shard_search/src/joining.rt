@@ -32,8 +32,8 @@ impl Table {
         requires second { IsTable parts.now second.now }
         requires other { IsSpan second.now.segments other }
         ensures { OnOk result (GrowsTerm parts.now self.old self.new (record {
-            term = term_at (index_at parts.now row.part).terms row.term;
-            segments = merged_segments (span_segments parts.now first.now row.span) (span_segments parts.now second.now other);
+          term = term_at (index_at parts.now row.part).terms row.term;
+          segments = merged_segments (span_segments parts.now first.now row.span) (span_segments parts.now second.now other);
         })) }
     {
         let from = self.segments.len();
@@ -44,7 +44,7 @@ impl Table {
 }
 
 /// The bytes of a term.
-fn text_of(parts: &[IndexFile], row: TermRow) -> &str
+pub(crate) fn text_of(parts: &[IndexFile], row: TermRow) -> &str
     requires part { row.part < length parts.now }
     requires term { row.term < length (index_at parts.now row.part).terms }
     ensures { result.now ≡ term_at (index_at parts.now row.part).terms row.term }

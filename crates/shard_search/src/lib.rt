@@ -17,5 +17,6 @@ mod sums;
 mod table;
 
 pub use cursor::ShardCursor;
+pub use rows::PartSegment;
 pub use shards::Shards;
 pub use stop::ShardStop;

@@ -60,7 +60,11 @@ impl Table {
                     own.from += 1;
                 }
                 Ordering::Greater => {
-                    self.copy_segment(parts, second, second.segments.as_slice()[other.from as usize])?;
+                    self.copy_segment(
+                        parts,
+                        second,
+                        second.segments.as_slice()[other.from as usize],
+                    )?;
                     other.from += 1;
                 }
                 Ordering::Equal => {

@@ -23,6 +23,7 @@ pub struct Shards {
     pub(crate) parts: Row<IndexFile>,
     pub(crate) bases: Row<u32>,
     pub(crate) docs: u32,
+    pub(crate) terms: u32,
     pub(crate) table: Table,
 }
 
@@ -34,7 +35,7 @@ impl Model for Shards {
 
     ghost view = { λ s. record { files = s.parts; pieces = s.table.pieces } };
 
-    ghost invariant = { λ s. IsUnion s.parts s.bases s.docs s.table };
+    ghost invariant = { λ s. IsUnion s.parts s.bases s.docs s.terms s.table };
 }
 
 impl Shards {
@@ -58,10 +59,15 @@ impl Shards {
         let Ok(table) = union_table(alloc, files) else {
             return Err(ShardStop::NoMemory);
         };
+        // More than 2^32 terms don't come up, as each has a posting.
+        let Ok(terms) = u32::try_from(table.terms.len()) else {
+            return Err(ShardStop::NoMemory);
+        };
         Ok(Shards {
             parts,
             bases,
             docs,
+            terms,
             table,
         })
     }

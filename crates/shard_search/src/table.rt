@@ -77,12 +77,16 @@ impl Table {
     }
 
     /// Puts a part's segment behind the others.
-    pub(crate) fn put_part_segment(&mut self, parts: &[IndexFile], piece: PartSegment) -> Result<(), NoMemory>
+    pub(crate) fn put_part_segment(
+        &mut self,
+        parts: &[IndexFile],
+        piece: PartSegment,
+    ) -> Result<(), NoMemory>
         requires stands { IsTable parts.now self.old }
         requires piece { IsPartSegment parts.now piece }
         ensures { OnOk result (Grows parts.now self.old self.new
             (raised_segment (base_of parts.now piece.part)
-                (segment_at (index_at parts.now piece.part).terms piece.term piece.segment) ∷ [])) }
+            (segment_at (index_at parts.now piece.part).terms piece.term piece.segment) ∷ [])) }
     {
         let from = self.pieces.len();
         let head = parts[piece.part as usize].head(piece.term, piece.segment);
@@ -105,8 +109,7 @@ impl Table {
             (row_segment parts.now table.now.pieces row ∷ [])) }
     {
         let from = self.pieces.len();
-        self.pieces
-            .extend(&table.pieces.as_slice()[row.from as usize..row.to as usize])?;
+        self.pieces.extend(&table.pieces.as_slice()[row.from as usize..row.to as usize])?;
         self.put_segment(from, row.impact, row.count)?;
         Ok(())
     }
@@ -132,10 +135,8 @@ impl Table {
             return Err(NoMemory);
         };
         let from = self.pieces.len();
-        self.pieces
-            .extend(&first.pieces.as_slice()[own.from as usize..own.to as usize])?;
-        self.pieces
-            .extend(&second.pieces.as_slice()[other.from as usize..other.to as usize])?;
+        self.pieces.extend(&first.pieces.as_slice()[own.from as usize..own.to as usize])?;
+        self.pieces.extend(&second.pieces.as_slice()[other.from as usize..other.to as usize])?;
         self.put_segment(from, own.impact, count)?;
         Ok(())
     }

@@ -16,12 +16,13 @@ pub record AreBases (files : List FileView) (bases : List ℕ) : Type 0 where
   pub each : (part : ℕ) → part < length files → slice_index bases part ≡ base_of files part
 
 -- the files were checked, their union can be searched, and the table has its terms
-pub record IsUnion (files : List FileView) (counts : List ℕ) (total : ℕ) (rows : Table) : Type 0 where
+pub record IsUnion (files : List FileView) (counts : List ℕ) (total known : ℕ) (rows : Table) : Type 0 where
   pub checked : All IsFileView files
   pub searchable : IsSearchable (union_of (indexes_of files))
   pub docs : total ≡ sum_by file_docs files
   pub few_docs : sum_by file_docs files ≤ MOST_DOCUMENTS
   pub bases : AreBases files counts
+  pub counted : known ≡ length rows.terms
   pub table : IsTable files rows
   pub names : (union_of (indexes_of files)).names ≡ union_names (indexes_of files)
   pub terms : (union_of (indexes_of files)).terms ≡ told_terms files rows

@@ -30,8 +30,8 @@ parts-preserved c =
       part = omega (arith, most);
       stands = c.in_ok-table.ensures.stands;
       terms =
-        c.in_ok-table.ensures.terms
-        ∙ ap₂ merged_terms c.in_ok-own.ensures.terms
+          c.in_ok-table.ensures.terms
+          ∙ ap₂ merged_terms c.in_ok-own.ensures.terms
           (c.parts.invariant.terms ∙ ap (λ (n : ℕ). union_terms (base_of files n) (drop n (indexes_of files))) (sym next))
-        ∙ sym (part_more files before (omega (arith, most, some)));
+          ∙ sym (part_more files before (omega (arith, most, some)));
     }

@@ -31,8 +31,8 @@ terms-preserved-in-Less c =
     let here = c.terms.invariant in
     record {
       joining = first_joins (told_terms files first) (told_terms files c.args.second.now) i c.terms.j (told_terms files c.terms.table) (told_terms files c.put_merged.new.self) here.joining nothing
-        (omega (arith, count, some)) (sym c.in-Less.ensures.order)
-        (copy_grows files c.terms.table c.put_merged.new.self nothing first c.as_slice.result.now i c.as_slice.ensures some c.in_ok-put_merged-in-Less.ensures);
+          (omega (arith, count, some)) (sym c.in-Less.ensures.order)
+          (copy_grows files c.terms.table c.put_merged.new.self nothing first c.as_slice.result.now i c.as_slice.ensures some c.in_ok-put_merged-in-Less.ensures);
       stands = c.in_ok-put_merged-in-Less.ensures.stands;
       first = omega (arith, some);
       second = here.second;
@@ -48,8 +48,8 @@ terms-preserved-in-Greater c =
     let here = c.terms.invariant in
     record {
       joining = second_joins (told_terms files c.args.first.now) (told_terms files second) c.terms.i j (told_terms files c.terms.table) (told_terms files c.put_merged-in-Greater.new.self) here.joining nothing
-        (omega (arith, count, some)) (sym c.in-Greater.ensures.order)
-        (copy_grows files c.terms.table c.put_merged-in-Greater.new.self nothing second c.as_slice-in-Greater.result.now j c.as_slice-in-Greater.ensures some c.in_ok-put_merged-in-Greater.ensures);
+          (omega (arith, count, some)) (sym c.in-Greater.ensures.order)
+          (copy_grows files c.terms.table c.put_merged-in-Greater.new.self nothing second c.as_slice-in-Greater.result.now j c.as_slice-in-Greater.ensures some c.in_ok-put_merged-in-Greater.ensures);
       stands = c.in_ok-put_merged-in-Greater.ensures.stands;
       first = here.first;
       second = omega (arith, some);
@@ -68,8 +68,8 @@ terms-preserved c =
     let more : j < length second.terms = c.in-Equal.ensures.second (λ is. cc) in
     record {
       joining = both_join (told_terms files first) (told_terms files second) i j (told_terms files c.terms.table) (told_terms files c.put_merged-in-Equal.new.self) c.terms.invariant.joining nothing
-        (omega (arith, count, some)) (omega (arith, others, more)) (sym c.in-Equal.ensures.order)
-        (join_grows files c.terms.table c.put_merged-in-Equal.new.self nothing first second c.as_slice-in-Equal-2.result.now c.as_slice-in-Equal.result.now i j
+          (omega (arith, count, some)) (omega (arith, others, more)) (sym c.in-Equal.ensures.order)
+          (join_grows files c.terms.table c.put_merged-in-Equal.new.self nothing first second c.as_slice-in-Equal-2.result.now c.as_slice-in-Equal.result.now i j
           c.as_slice-in-Equal-2.ensures c.as_slice-in-Equal.ensures some more c.in_ok-put_merged-in-Equal.ensures);
       stands = c.in_ok-put_merged-in-Equal.ensures.stands;
       first = omega (arith, some);

@@ -26,7 +26,7 @@ returns-then-j-len-clause-order c =
     let count = terms_counted files c.args.first.now in
     let others = terms_counted files c.args.second.now in
     sym (first_next (told_terms files c.args.first.now) (told_terms files c.args.second.now) c.args.i c.args.j nothing
-      (omega (arith, count, c.len.ensures, c.if-i-len.false)) (omega (arith, others, c.len-2.ensures, c.if-j-len.true)))
+    (omega (arith, count, c.len.ensures, c.if-i-len.false)) (omega (arith, others, c.len-2.ensures, c.if-j-len.true)))
 
 pub returns-clause-order : goal.returns-clause-order
 returns-clause-order c =
@@ -39,10 +39,10 @@ returns-clause-order c =
     let more : c.args.j < length second.terms = omega (arith, c.len-2.ensures, c.if-j-len.false) in
     c.cmp.ensures
     ∙ ap₂ (slice_cmp nat_cmp)
-      (c.as_bytes.ensures.value ∙ c.text_of-term.ensures
-        ∙ ap (λ (rows : List TermRow). term_at (index_at files (slice_index_or rows c.args.i none).part).terms (slice_index_or rows c.args.i none).term) c.as_slice.ensures
-        ∙ sym (text_at files first c.args.i none nothing some))
-      (c.as_bytes-2.ensures.value ∙ c.text_of-other.ensures
-        ∙ ap (λ (rows : List TermRow). term_at (index_at files (slice_index_or rows c.args.j none).part).terms (slice_index_or rows c.args.j none).term) c.as_slice-2.ensures
-        ∙ sym (text_at files second c.args.j none nothing more))
+    (c.as_bytes.ensures.value ∙ c.text_of-term.ensures
+    ∙ ap (λ (rows : List TermRow). term_at (index_at files (slice_index_or rows c.args.i none).part).terms (slice_index_or rows c.args.i none).term) c.as_slice.ensures
+    ∙ sym (text_at files first c.args.i none nothing some))
+    (c.as_bytes-2.ensures.value ∙ c.text_of-other.ensures
+    ∙ ap (λ (rows : List TermRow). term_at (index_at files (slice_index_or rows c.args.j none).part).terms (slice_index_or rows c.args.j none).term) c.as_slice-2.ensures
+    ∙ sym (text_at files second c.args.j none nothing more))
     ∙ sym (both_next (told_terms files first) (told_terms files second) c.args.i c.args.j nothing (omega (arith, count, some)) (omega (arith, others, more)))

@@ -12,7 +12,7 @@ returns-then-rest-docs-clause-name c =
     let files = c.args.parts.now in
     let i = c.parts.i in
     let docs_are : c.docs-docs.result ≡ file_docs (file_at files i) =
-      c.docs-docs.ensures ∙ ap file_docs (c.index-parts-i.is ∙ get_or_default files i c.index-parts-i.result (record { index = record { names = []; terms = [] }; codecs = [] }) c.parts-test.true) in
+    c.docs-docs.ensures ∙ ap file_docs (c.index-parts-i.is ∙ get_or_default files i c.index-parts-i.result (record { index = record { names = []; terms = [] }; codecs = [] }) c.parts-test.true) in
     c.parts.invariant.same ∙ name_here files i c.parts-test.true c.parts.rest (subst (λ n. c.parts.rest < n) docs_are c.if-rest-docs.true)
 
 pub parts-preserved : goal.parts-preserved
@@ -20,7 +20,7 @@ parts-preserved c =
     let files = c.args.parts.now in
     let i = c.parts.i in
     let docs_are : c.docs-docs.result ≡ file_docs (file_at files i) =
-      c.docs-docs.ensures ∙ ap file_docs (c.index-parts-i.is ∙ get_or_default files i c.index-parts-i.result (record { index = record { names = []; terms = [] }; codecs = [] }) c.parts-test.true) in
+    c.docs-docs.ensures ∙ ap file_docs (c.index-parts-i.is ∙ get_or_default files i c.index-parts-i.result (record { index = record { names = []; terms = [] }; codecs = [] }) c.parts-test.true) in
     let high = subst (λ n. n ≤ c.parts.rest) docs_are c.if-rest-docs.false in
     let here = c.parts.invariant in
     rw docs_are (record {

@@ -1,4 +1,4 @@
-use Rattle.std.proofs.Common.{◌≡◌, ◌≤◌, List, All, sum_by, ap, subst, sym, ◌∙◌}
+use Rattle.std.proofs.Common.{◌≡◌, ◌≤◌, List, length, All, sum_by, ap, subst, sym, ◌∙◌}
 use Rattle.jass_base.specs.declared.limits.TheConstants.{MOST_DOCUMENTS, MOST_POSTINGS}
 use Rattle.index_model.specs.Index.{IndexData}
 use Rattle.index_model.specs.Merging.{union_terms}
@@ -21,9 +21,10 @@ invariant_of-result c =
     record {
       checked = checked;
       searchable = can_search files checked (c.a_union_is_well_formed.ensures indexes (indexes_are files checked) (few_names files checked docs))
-        (c.a_union_has_the_entries_of_its_parts.ensures.sizes indexes) postings;
+          (c.a_union_has_the_entries_of_its_parts.ensures.sizes indexes) postings;
       docs = c.in-Ok.ensures.docs ∙ ap (λ (l : List FileView). sum_by file_docs l) same;
       few_docs = docs;
+      counted = c.in-Ok-try_from.ensures.1 ∙ c.len.ensures;
       bases = subst (λ (l : List FileView). AreBases l c.in-Ok.bases) same c.in-Ok.ensures.bases;
       table = subst (λ (l : List FileView). IsTable l c.in-Ok-union_table.table) same c.in-Ok-union_table.ensures.stands;
       names = ap (λ (x : IndexData). x.names) merges;

@@ -16,7 +16,7 @@ segments-preserved-in-Less c =
     first_moves files first c.args.second.now c.args.own c.args.other c.args.self.now c.segments.own c.segments.other c.segments.self c.copy_segment.new.self c.segments.invariant none
     (c.in-Less.ensures.first (λ is. cc)) (sym (c.in-Less.ensures.order files))
     (subst (λ (rows : List SegmentRow). Grows files c.segments.self c.copy_segment.new.self (row_segment files first.pieces (slice_index_or rows at none) ∷ [])) c.as_slice.ensures
-      c.in_ok-copy_segment-in-Less.ensures)
+    c.in_ok-copy_segment-in-Less.ensures)
 
 pub segments-preserved-in-Greater : goal.segments-preserved-in-Greater
 segments-preserved-in-Greater c =
@@ -26,7 +26,7 @@ segments-preserved-in-Greater c =
     second_moves files c.args.first.now second c.args.own c.args.other c.args.self.now c.segments.own c.segments.other c.segments.self c.copy_segment-in-Greater.new.self c.segments.invariant none
     (c.in-Greater.ensures.second (λ is. cc)) (sym (c.in-Greater.ensures.order files))
     (subst (λ (rows : List SegmentRow). Grows files c.segments.self c.copy_segment-in-Greater.new.self (row_segment files second.pieces (slice_index_or rows at none) ∷ [])) c.as_slice-in-Greater.ensures
-      c.in_ok-copy_segment-in-Greater.ensures)
+    c.in_ok-copy_segment-in-Greater.ensures)
 
 pub segments-preserved : goal.segments-preserved
 segments-preserved c =
@@ -38,10 +38,10 @@ segments-preserved c =
     both_move files first second c.args.own c.args.other c.args.self.now c.segments.own c.segments.other c.segments.self c.join_segments.new.self c.segments.invariant none
     (c.in-Equal.ensures.first (λ is. cc)) (c.in-Equal.ensures.second (λ is. cc)) (sym (c.in-Equal.ensures.order files))
     (subst (λ (rows : List SegmentRow). Grows files c.segments.self c.join_segments.new.self
-        (joined_segment (row_segment files first.pieces (slice_index_or first.segments own none)) (row_segment files second.pieces (slice_index_or rows other none)) ∷ [])) c.as_slice-in-Equal-2.ensures
-      (subst (λ (rows : List SegmentRow). Grows files c.segments.self c.join_segments.new.self
-        (joined_segment (row_segment files first.pieces (slice_index_or rows own none)) (row_segment files second.pieces (slice_index_or c.as_slice-in-Equal-2.result.now other none)) ∷ [])) c.as_slice-in-Equal.ensures
-        c.in_ok-join_segments-in-Equal.ensures))
+    (joined_segment (row_segment files first.pieces (slice_index_or first.segments own none)) (row_segment files second.pieces (slice_index_or rows other none)) ∷ [])) c.as_slice-in-Equal-2.ensures
+    (subst (λ (rows : List SegmentRow). Grows files c.segments.self c.join_segments.new.self
+    (joined_segment (row_segment files first.pieces (slice_index_or rows own none)) (row_segment files second.pieces (slice_index_or c.as_slice-in-Equal-2.result.now other none)) ∷ [])) c.as_slice-in-Equal.ensures
+    c.in_ok-join_segments-in-Equal.ensures))
 
 pub returns : goal.returns
 returns c =

@@ -15,7 +15,7 @@ returns c =
     let p = c.args.piece in
     let own = segment_at (index_at files p.part).terms p.term p.segment in
     let file_is : c.index-parts-piece.result ≡ file_at files p.part =
-      c.index-parts-piece.is ∙ get_or_default files p.part c.index-parts-piece.result (record { index = record { names = []; terms = [] }; codecs = [] }) c.requires.piece.part in
+    c.index-parts-piece.is ∙ get_or_default files p.part c.index-parts-piece.result (record { index = record { names = []; terms = [] }; codecs = [] }) c.requires.piece.part in
     let impact = c.head-head.ensures.impact ∙ ap (λ (f : FileView). (segment_at f.index.terms p.term p.segment).impact) file_is in
     let count = c.head-head.ensures.count ∙ ap (λ (f : FileView). length (segment_at f.index.terms p.term p.segment).docs) file_is in
     segment_grows files c.args.self.now c.requires.stands (p ∷ []) c.head-head.result.impact c.head-head.result.count
