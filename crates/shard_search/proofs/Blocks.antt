@@ -1,5 +1,5 @@
 -- The front of a block, raised document by document.
-use Rattle.shared_lemmas.proofs.Common.{◌≡◌, ◌≤◌, ◌<◌, ◌+◌, ◌^◌, ℕ, suc, List, [], ◌∷◌, ◌++◌, length, map, take, drop, slice_index, slice_set, get_or, All, ap, ap₂, sym, subst, ◌∙◌, refl, arith, length-take-le, get_or-take, get_or-set_other, take_more_set, map_more}
+use Rattle.shared_lemmas.proofs.Common.{◌≡◌, ◌≤◌, ◌<◌, ◌+◌, ◌^◌, ℕ, List, [], ◌∷◌, ◌++◌, length, map, take, slice_index, slice_set, get_or, All, ap₂, sym, subst, ◌∙◌, arith, length-take-le, get_or-take, get_or-set_other, take_more_set, map_more}
 
 module _ (block old : List ℕ) (i count base : ℕ) (here : i < count) (room : i < length block)
     (same : (k : ℕ) → i ≤ k → slice_index block k ≡ slice_index old k) where

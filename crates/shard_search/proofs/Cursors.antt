@@ -1,13 +1,13 @@
 -- How a union's segment is handed out, part after part.
-use Rattle.shared_lemmas.proofs.Common.{◌≡◌, ◌≢◌, ◌≤◌, ◌<◌, ◌+◌, ◌-◌, ◌^◌, ℕ, zero, suc, List, [], ◌∷◌, ◌++◌, length, map, take, drop, slice_range, slice_index_or, All, All-drop, ap, ap₂, sym, subst, ◌∙◌, refl, arith, nil_from_length, get_or_default, sum_by, append-nil}
+use Rattle.shared_lemmas.proofs.Common.{◌≡◌, ◌≤◌, ◌<◌, ◌+◌, ◌-◌, ◌^◌, ℕ, List, [], ◌∷◌, ◌++◌, length, map, take, drop, slice_range, slice_index_or, All, All-drop, ap, ap₂, sym, subst, ◌∙◌, refl, arith, nil_from_length, get_or_default, sum_by}
 use Rattle.jass_base.specs.declared.limits.TheConstants.{MOST_DOCUMENTS}
 use Rattle.index_layout.specs.View.{FileView, IsFileView}
 use Rattle.index_file.specs.Giving.{Gives}
 use Rattle.index_file.specs.Places.{segment_at}
 use Rattle.index_file.specs.declared.cursor.Cursor.{Cursor}
-use Rattle.shard_search.proofs.Pieces.{base_fits, given_few, given_left, given_parted, one_in_front, own_are, own_docs, piece_counted, piece_is, pieces_parted}
+use Rattle.shard_search.proofs.Pieces.{base_fits, given_left, given_parted, one_in_front, own_are, own_docs, piece_counted, piece_is, pieces_parted}
 use Rattle.shard_search.proofs.Ranges.{range_none}
-use Rattle.shard_search.specs.Parts.{IsPartSegment, base_of, file_at, index_at, piece_docs, pieces_docs}
+use Rattle.shard_search.specs.Parts.{IsPartSegment, base_of, file_at, piece_docs, pieces_docs}
 use Rattle.shard_search.specs.Sums.{file_docs}
 use Rattle.shard_search.specs.Union.{Leaves, UnionView}
 use Rattle.shard_search.specs.declared.cursor.ShardCursor.{ShardCursor}

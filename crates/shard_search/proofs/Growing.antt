@@ -7,11 +7,10 @@ use Rattle.shared_lemmas.proofs.Places.{slice_new}
 use Rattle.shard_search.proofs.Ranges.{map_range}
 use Rattle.shard_search.proofs.Tables.{grown, row_behind, rows_stay, still_row, still_term, terms_stay}
 use Rattle.shard_search.specs.Parts.{IsPartSegment, index_at, pieces_docs}
-use Rattle.shard_search.specs.Private.Tables.{Grows, GrowsTerm, IsSegmentRow, IsSpan, IsTable, IsTermRow, row_segment, row_term, span_segments, told_segments, told_terms}
+use Rattle.shard_search.specs.Private.Tables.{Grows, GrowsTerm, IsSegmentRow, IsTable, IsTermRow, row_segment, row_term, span_segments, told_segments, told_terms}
 use Rattle.shard_search.specs.declared.rows.PartSegment.{PartSegment}
 use Rattle.shard_search.specs.declared.rows.SegmentRow.{SegmentRow}
 use Rattle.shard_search.specs.declared.rows.TermRow.{TermRow}
-use Rattle.shard_search.specs.declared.rows.Span.{Span}
 use Rattle.shard_search.specs.declared.table.Table.{Table}
 
 table_is : (t : Table) (pieces : List PartSegment) (segments : List SegmentRow) (terms : List TermRow) → t.pieces ≡ pieces → t.segments ≡ segments → t.terms ≡ terms

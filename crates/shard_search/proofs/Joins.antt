@@ -1,5 +1,5 @@
 -- Two lists of terms that are merged, step by step.
-use Rattle.shared_lemmas.proofs.Common.{◌≡◌, ◌≤◌, ◌<◌, ◌+◌, ℕ, suc, List, [], ◌∷◌, ◌++◌, length, map, drop, slice_index_or, get_or, ap, ap₂, sym, subst, ◌∙◌, refl, arith, append_assoc, append-nil, drop-cons, drop_all, slice_cmp, nat_cmp, Less, Equal, Greater, get_or-map, length-map}
+use Rattle.shared_lemmas.proofs.Common.{◌≡◌, ◌≤◌, ◌<◌, ◌+◌, ℕ, suc, List, [], ◌∷◌, ◌++◌, length, drop, slice_index_or, ap, ap₂, sym, ◌∙◌, refl, arith, append_assoc, append-nil, drop-cons, drop_all, slice_cmp, nat_cmp, Less, Equal, Greater, get_or-map, length-map}
 use Rattle.index_model.specs.Index.{SegmentData, TermData}
 use Rattle.index_layout.specs.View.{FileView}
 use Rattle.index_file.specs.Places.{term_at}
@@ -8,9 +8,8 @@ use Rattle.shard_search.proofs.Spans.{span_none}
 use Rattle.index_model.specs.Merging.{joined_segment, joined_term, merged_segments, merged_terms, segment_cmp, term_cmp}
 use Rattle.shard_search.specs.Parts.{index_at}
 use Rattle.shard_search.specs.Private.Heads.{head_order}
-use Rattle.shard_search.specs.Private.Tables.{GrowsTerm, row_segment, row_term, span_segments, told_terms}
+use Rattle.shard_search.specs.Private.Tables.{GrowsTerm, row_term, span_segments, told_terms}
 use Rattle.shard_search.specs.declared.rows.TermRow.{TermRow}
-use Rattle.shard_search.specs.declared.rows.Span.{Span}
 use Rattle.shard_search.specs.declared.table.Table.{Table}
 
 -- ---- the terms of rows

@@ -1,6 +1,6 @@
 -- One step of merging two lists in order.
-use Rattle.shared_lemmas.proofs.Common.{◌≡◌, List, [], ◌∷◌, Ordering, Less, Equal, Greater, refl, ap, sym, ◌∙◌}
-use Rattle.index_model.specs.Merging.{merged, merged_after}
+use Rattle.shared_lemmas.proofs.Common.{◌≡◌, List, [], ◌∷◌, Ordering, Less, Equal, Greater, refl, ap, sym}
+use Rattle.index_model.specs.Merging.{merged}
 use Rattle.shard_search.specs.Private.Heads.{head_order}
 
 module _ {A : Type 0} (cmp : A → A → Ordering) (joined : A → A → A) where

@@ -1,5 +1,5 @@
 -- The names of several files, one file after the other.
-use Rattle.shared_lemmas.proofs.Common.{◌≡◌, ◌≤◌, ◌<◌, ◌+◌, ◌-◌, ℕ, suc, List, [], ◌∷◌, ◌++◌, length, map, take, drop, flat_map, slice_get, slice_index_or, get_or, Some, ap, ap₂, sym, subst, ◌∙◌, refl, arith, length-append, length-map, drop-cons, get_or-map, slice_get-get_or, get_or_append_left, get_or-append_right, sum_by, length-flat_map}
+use Rattle.shared_lemmas.proofs.Common.{◌≡◌, ◌≤◌, ◌<◌, ◌+◌, ◌-◌, ℕ, suc, List, [], ◌∷◌, ◌++◌, length, drop, slice_get, Some, ap, ap₂, sym, ◌∙◌, refl, arith, length-append, length-map, drop-cons, get_or-map, slice_get-get_or, get_or_append_left, get_or-append_right, sum_by, length-flat_map}
 use Rattle.shared_lemmas.proofs.Sums.{sum_map}
 use Rattle.index_model.specs.Index.{IndexData}
 use Rattle.index_layout.specs.View.{FileView}

@@ -1,14 +1,11 @@
 -- The terms of a part, and of the parts from one on.
-use Rattle.shared_lemmas.proofs.Common.{◌≡◌, ◌≤◌, ◌<◌, ◌+◌, ℕ, zero, suc, List, [], ◌∷◌, ◌++◌, length, map, take, drop, slice_index_or, get_or, ap, ap₂, sym, subst, ◌∙◌, refl, arith, sum_by, sum_by_more, drop_all, length-map, map_more, append-nil, take_all}
-use Rattle.index_model.specs.Index.{IndexData, SegmentData, TermData}
-use Rattle.index_model.specs.Querying.{segments_at}
+use Rattle.shared_lemmas.proofs.Common.{◌≡◌, ◌<◌, ◌+◌, ℕ, List, [], length, map, drop, ap, sym, ◌∙◌, arith, sum_by_more, drop_all, length-map}
 use Rattle.index_layout.specs.View.{FileView}
-use Rattle.index_file.specs.Places.{segment_at, term_at}
 use Rattle.shard_search.proofs.NameLists.{indexes_parted}
 use Rattle.index_model.specs.Merging.{merged_terms, union_terms}
-use Rattle.shard_search.specs.Parts.{base_of, file_at, index_at}
+use Rattle.shard_search.specs.Parts.{base_of, index_at}
 use Rattle.shard_search.specs.Sums.{file_docs, indexes_of}
-use Rattle.index_model.specs.Unions.{raised_segment, raised_term}
+use Rattle.index_model.specs.Unions.{raised_term}
 
 module _ (files : List FileView) where
   -- behind the last part there is no term

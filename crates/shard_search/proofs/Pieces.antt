@@ -1,9 +1,7 @@
 -- The documents of part segments.
-use Rattle.shared_lemmas.proofs.Common.{◌≡◌, ◌≤◌, ◌<◌, ◌+◌, ◌^◌, ℕ, zero, suc, List, [], ◌∷◌, ◌++◌, length, map, take, drop, slice_range, slice_index_or, get_or, All, All-take, All-drop, All-map, ap, ap₂, sym, subst, ◌∙◌, refl, arith, length-append, length-map, length-take, length-take-le, length-drop, map-append, append_assoc, append-nil, flat_map-append, take-append-drop, nil_from_length, sum_by, sum_by_more_le, get_or_default}
+use Rattle.shared_lemmas.proofs.Common.{◌≡◌, ◌≤◌, ◌<◌, ◌+◌, ◌^◌, ℕ, List, [], ◌∷◌, ◌++◌, length, map, take, drop, slice_range, slice_index_or, All, ap, sym, ◌∙◌, refl, arith, length-append, length-map, length-take, length-take-le, length-drop, map-append, append_assoc, append-nil, flat_map-append, take-append-drop, nil_from_length, sum_by, sum_by_more_le}
 use Rattle.jass_base.specs.Gaps.{AreDocs}
 use Rattle.jass_base.specs.declared.limits.TheConstants.{MOST_DOCUMENTS}
-use Rattle.index_model.specs.Index.{IndexData, SegmentData, TermData}
-use Rattle.index_model.specs.Querying.{segments_at}
 use Rattle.index_layout.specs.View.{FileView, IsFileView}
 use Rattle.index_file.specs.Places.{segment_at}
 use Rattle.shard_search.proofs.Ranges.{range_cons}

@@ -1,5 +1,5 @@
 -- Ranges of lists that grow.
-use Rattle.shared_lemmas.proofs.Common.{◌≡◌, ◌≤◌, ◌<◌, ◌+◌, ◌-◌, ℕ, suc, List, [], ◌∷◌, ◌++◌, length, map, take, drop, slice_range, slice_index_or, get_or, ap, sym, subst, ◌∙◌, refl, arith, drop-cons, drop-map, take-map, AllByRecursion}
+use Rattle.shared_lemmas.proofs.Common.{◌≡◌, ◌≤◌, ◌<◌, ◌+◌, ◌-◌, ℕ, suc, List, [], ◌∷◌, length, map, take, drop, slice_range, slice_index_or, ap, ◌∙◌, refl, arith, drop-cons, drop-map, take-map, AllByRecursion}
 
 module _ {A : Type 0} where
   -- an empty range

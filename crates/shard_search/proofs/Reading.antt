@@ -1,5 +1,5 @@
 -- Terms and segments of a table by their numbers.
-use Rattle.shared_lemmas.proofs.Common.{◌≡◌, ◌≤◌, ◌<◌, ◌+◌, ◌-◌, ℕ, List, [], ◌∷◌, length, map, take, drop, slice_range, slice_index_or, get_or, ap, ap₂, sym, subst, ◌∙◌, refl, arith, length-map, length-drop, length-take-le, get_or-map, get_or-take, get_or-drop}
+use Rattle.shared_lemmas.proofs.Common.{◌≡◌, ◌≤◌, ◌<◌, ◌+◌, ◌-◌, ℕ, List, [], length, map, drop, slice_range, slice_index_or, ap, sym, ◌∙◌, arith, length-map, length-drop, length-take-le, get_or-map, get_or-take, get_or-drop}
 use Rattle.index_model.specs.Index.{SegmentData, TermData}
 use Rattle.index_model.specs.Querying.{segments_at}
 use Rattle.index_layout.specs.View.{FileView}

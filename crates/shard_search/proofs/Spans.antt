@@ -1,6 +1,6 @@
 -- Two spans of segments that are merged, step by step.
-use Rattle.shared_lemmas.proofs.Common.{◌≡◌, ◌≤◌, ◌<◌, ◌+◌, ℕ, List, [], ◌∷◌, ◌++◌, length, map, slice_range, slice_index_or, ap, ap₂, sym, subst, ◌∙◌, refl, arith, append_assoc, append-nil, nat_cmp, Less, Equal, Greater}
-use Rattle.index_model.specs.Index.{SegmentData, TermData}
+use Rattle.shared_lemmas.proofs.Common.{◌≡◌, ◌≤◌, ◌<◌, ◌+◌, List, [], ◌∷◌, ◌++◌, map, slice_index_or, ap, ap₂, sym, ◌∙◌, refl, arith, append_assoc, append-nil, nat_cmp, Less, Equal, Greater}
+use Rattle.index_model.specs.Index.{SegmentData}
 use Rattle.index_layout.specs.View.{FileView}
 use Rattle.shard_search.proofs.Ranges.{range_cons, range_none}
 use Rattle.shard_search.proofs.Merges.{takes_first, takes_second, takes_both}

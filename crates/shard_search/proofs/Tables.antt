@@ -1,5 +1,5 @@
 -- Tables that grow: what stood there stays.
-use Rattle.shared_lemmas.proofs.Common.{◌≡◌, ◌≤◌, ◌<◌, ◌+◌, ◌-◌, ℕ, List, [], ◌∷◌, ◌++◌, length, map, take, drop, slice_range, All, ap, ap₂, sym, subst, ◌∙◌, refl, arith, map-append, length-append, length-map, length-drop, length-take-le, All-append, All-weaker, All-take, All-drop, All-push, All-nil, recursion_from_All, append_assoc}
+use Rattle.shared_lemmas.proofs.Common.{◌≡◌, ◌≤◌, ◌-◌, ℕ, List, [], ◌++◌, length, map, drop, slice_range, All, ap, sym, subst, ◌∙◌, refl, arith, length-append, length-drop, length-take-le, All-take, All-drop, All-nil, recursion_from_All}
 use Rattle.shared_lemmas.proofs.Lists.{all_weaker}
 use Rattle.index_model.specs.Index.{SegmentData, TermData}
 use Rattle.index_layout.specs.View.{FileView}
@@ -7,7 +7,7 @@ use Rattle.index_file.specs.Places.{term_at}
 use Rattle.shared_lemmas.proofs.Places.{slice_stays, slice_new}
 use Rattle.shard_search.proofs.Ranges.{map_alike}
 use Rattle.shard_search.specs.Parts.{IsPartSegment, index_at, pieces_docs}
-use Rattle.shard_search.specs.Private.Tables.{Grows, GrowsTerm, IsSegmentRow, IsSpan, IsTable, IsTermRow, row_segment, row_term, span_segments, told_segments, told_terms}
+use Rattle.shard_search.specs.Private.Tables.{IsSegmentRow, IsSpan, IsTable, IsTermRow, row_segment, row_term, span_segments, told_terms}
 use Rattle.shard_search.specs.declared.rows.PartSegment.{PartSegment}
 use Rattle.shard_search.specs.declared.rows.SegmentRow.{SegmentRow}
 use Rattle.shard_search.specs.declared.rows.TermRow.{TermRow}

@@ -1,14 +1,14 @@
 -- What the union of checked files keeps.
-use Rattle.shared_lemmas.proofs.Common.{◌≡◌, ◌≤◌, ℕ, List, length, map, All, All-map, All-weaker, sum_by, subst, refl, sym, ◌∙◌}
+use Rattle.shared_lemmas.proofs.Common.{◌≡◌, ◌≤◌, ℕ, List, length, All, All-map, All-weaker, sum_by, subst, refl, sym, ◌∙◌}
 use Rattle.shared_lemmas.proofs.Sums.{sum_map}
 use Rattle.jass_base.specs.declared.limits.TheConstants.{MOST_DOCUMENTS, MOST_POSTINGS}
-use Rattle.index_model.specs.Index.{IndexData, IsIndex, IsWellFormed}
+use Rattle.index_model.specs.Index.{IsIndex, IsWellFormed}
 use Rattle.index_model.specs.Unions.{union_names, union_of}
 use Rattle.index_layout.specs.View.{FileView, IsFileView, index_postings}
 use Rattle.index_file.specs.Sources.{IsSearchable}
 use Rattle.shard_search.proofs.NameLists.{names_counted}
 use Rattle.shard_search.specs.Sums.{file_docs, file_postings, indexes_of}
-use Rattle.shard_search.specs.Union.{UnionView, union_index}
+use Rattle.shard_search.specs.Union.{union_index}
 use Rattle.shard_search.specs.declared.rows.PartSegment.{PartSegment}
 
 module _ (files : List FileView) (checked : All IsFileView files) where

@@ -1,11 +1,9 @@
-use Rattle.std.proofs.Common.{◌≡◌, ◌≤◌, ◌<◌, ◌-◌, ◌+◌, ℕ, List, map, drop, length, ap, ap₂, sym, subst, ◌∙◌, refl, arith}
-use Rattle.index_model.specs.Index.{TermData}
+use Rattle.std.proofs.Common.{◌≡◌, ◌-◌, ◌+◌, ℕ, drop, ap, ap₂, sym, ◌∙◌, arith}
 use Rattle.shard_search.proofs.PartTerms.{no_part, part_more}
 use Rattle.shard_search.proofs.Tables.{nothing_stands, nothing_told}
 use Rattle.index_model.specs.Merging.{merged_terms, union_terms}
-use Rattle.shard_search.specs.Parts.{base_of, index_at}
+use Rattle.shard_search.specs.Parts.{base_of}
 use Rattle.shard_search.specs.Sums.{indexes_of}
-use Rattle.index_model.specs.Unions.{raised_term}
 use Rattle.shard_search.proofs.building.union_table.Goals as goal
 
 pub parts-init : goal.parts-init

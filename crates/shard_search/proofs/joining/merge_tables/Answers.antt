@@ -1,4 +1,4 @@
-use Rattle.std.proofs.Common.{◌≡◌, ◌≤◌, ◌<◌, ◌+◌, [], ◌++◌, length, ap, sym, ◌∙◌, arith}
+use Rattle.std.proofs.Common.{◌<◌, [], ◌++◌, length, ap, sym, arith}
 use Rattle.index_model.specs.Index.{TermData}
 use Rattle.shard_search.proofs.Joins.{all_joined, both_join, copy_grows, first_joins, join_grows, second_joins, terms_counted}
 use Rattle.shard_search.proofs.Tables.{nothing_stands, nothing_told}

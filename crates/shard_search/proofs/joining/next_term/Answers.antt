@@ -1,4 +1,4 @@
-use Rattle.std.proofs.Common.{List, slice_index_or, length, ap, ap₂, sym, ◌∙◌, arith, [], ◌≡◌, ◌<◌}
+use Rattle.std.proofs.Common.{List, slice_index_or, length, ap, ap₂, sym, ◌∙◌, arith, [], ◌<◌}
 use Rattle.shared_lemmas.proofs.Common.{slice_cmp, nat_cmp}
 use Rattle.index_model.specs.Index.{TermData}
 use Rattle.index_file.specs.Places.{term_at}

@@ -1,10 +1,8 @@
-use Rattle.std.proofs.Common.{◌≡◌, ◌≤◌, ◌<◌, ◌-◌, ℕ, List, [], drop, slice_get, ap, subst, sym, ◌∙◌}
+use Rattle.std.proofs.Common.{◌≡◌, ◌≤◌, ◌<◌, [], ap, subst, ◌∙◌}
 use Rattle.shared_lemmas.proofs.Common.{get_or_default}
-use Rattle.index_model.specs.Unions.{union_names}
-use Rattle.index_layout.specs.View.{FileView}
 use Rattle.shard_search.proofs.NameLists.{inside_behind, name_behind, name_here}
 use Rattle.shard_search.specs.Parts.{file_at}
-use Rattle.shard_search.specs.Sums.{file_docs, indexes_of}
+use Rattle.shard_search.specs.Sums.{file_docs}
 use Rattle.shard_search.proofs.naming.place_of.Goals as goal
 
 pub returns-then-rest-docs-clause-name : goal.returns-then-rest-docs-clause-name

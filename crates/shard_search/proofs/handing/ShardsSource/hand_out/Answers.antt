@@ -1,4 +1,4 @@
-use Rattle.std.proofs.Common.{◌≡◌, ◌≤◌, length, sym, arith}
+use Rattle.std.proofs.Common.{sym, arith}
 use Rattle.shared_lemmas.proofs.Common.{length-take-le}
 use Rattle.shard_search.proofs.handing.ShardsSource.hand_out.Goals as goal
 

@@ -1,11 +1,9 @@
-use Rattle.std.proofs.Common.{◌≡◌, ◌≤◌, ◌<◌, [], length, ap, sym, subst, ◌∙◌, arith}
+use Rattle.std.proofs.Common.{◌≤◌, ◌<◌, [], length, ap, sym, ◌∙◌, arith}
 use Rattle.shared_lemmas.proofs.Common.{get_or_past}
 use Rattle.index_model.specs.Index.{TermData}
-use Rattle.index_model.specs.Querying.{segments_at}
 use Rattle.shard_search.proofs.Joins.{terms_counted}
 use Rattle.shard_search.proofs.Reading.{segments_counted}
 use Rattle.shard_search.proofs.Unioned.{index_terms}
-use Rattle.shard_search.specs.Private.Tables.{told_terms}
 use Rattle.shard_search.specs.Union.{UnionView, union_index}
 use Rattle.shard_search.proofs.handing.ShardsSource.segments.Goals as goal
 

@@ -1,9 +1,8 @@
-use Rattle.std.proofs.Common.{◌≡◌, ◌<◌, ℕ, List, [], length, slice_get, ap, subst, sym, ◌∙◌}
+use Rattle.std.proofs.Common.{◌<◌, ℕ, List, length, slice_get, ap, subst, sym, ◌∙◌}
 use Rattle.index_model.specs.Unions.{union_names}
 use Rattle.index_layout.specs.View.{FileView}
 use Rattle.shard_search.proofs.Cursors.{file_there}
 use Rattle.shard_search.proofs.Unioned.{index_names}
-use Rattle.shard_search.specs.Parts.{file_at}
 use Rattle.shard_search.specs.Sums.{indexes_of}
 use Rattle.shard_search.specs.Union.{UnionView, union_index}
 use Rattle.shard_search.proofs.naming.ShardsNames.name.Goals as goal

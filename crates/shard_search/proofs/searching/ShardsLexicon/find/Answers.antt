@@ -1,9 +1,8 @@
-use Rattle.std.proofs.Common.{◌≤◌, ap, arith, length, refl, sym, ◌∙◌}
+use Rattle.std.proofs.Common.{ap, arith, length, refl, sym, ◌∙◌}
 use Rattle.shard_search.proofs.Joins.{terms_counted}
 use Rattle.shard_search.proofs.Unioned.{index_terms}
 use Rattle.index_file.proofs.Halves.{texts_rise, upper, lower, found, missing}
 use Rattle.index_file.specs.Places.{term_at}
-use Rattle.shard_search.specs.Private.Tables.{told_terms}
 use Rattle.shard_search.specs.Union.{UnionView, union_index}
 use Rattle.shard_search.proofs.searching.ShardsLexicon.find.Goals as goal
 

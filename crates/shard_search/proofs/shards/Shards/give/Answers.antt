@@ -1,4 +1,4 @@
-use Rattle.std.proofs.Common.{◌≡◌, ◌≤◌, ◌<◌, ℕ, List, length, slice_index, slice_index_or, take, drop, ap, subst, sym, ◌∙◌, arith}
+use Rattle.std.proofs.Common.{◌≡◌, ◌<◌, ℕ, List, length, slice_index, take, drop, ap, subst, sym, ◌∙◌, arith}
 use Rattle.index_layout.specs.View.{FileView}
 use Rattle.index_file.specs.Giving.{Gives}
 use Rattle.shard_search.proofs.Cursors.{file_there, gives_on}

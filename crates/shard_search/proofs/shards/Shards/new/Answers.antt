@@ -1,4 +1,4 @@
-use Rattle.std.proofs.Common.{◌≡◌, ◌≤◌, List, length, All, sum_by, ap, subst, sym, ◌∙◌}
+use Rattle.std.proofs.Common.{◌≡◌, ◌≤◌, List, All, sum_by, ap, subst, sym, ◌∙◌}
 use Rattle.jass_base.specs.declared.limits.TheConstants.{MOST_DOCUMENTS, MOST_POSTINGS}
 use Rattle.index_model.specs.Index.{IndexData}
 use Rattle.index_model.specs.Merging.{union_terms}

@@ -1,5 +1,4 @@
 use Rattle.std.proofs.Common.{◌≡◌, ◌≤◌, ◌<◌, ◌+◌, ◌^◌, ℕ, List, [], ◌∷◌, length, slice_index, slice_index_or, slice_range, ap, subst, sym, ◌∙◌, arith}
-use Rattle.index_layout.specs.View.{FileView}
 use Rattle.shard_search.proofs.Cursors.{file_there, first_stands, no_piece, only_fits, only_is, only_one}
 use Rattle.shard_search.specs.Parts.{base_of, pieces_docs}
 use Rattle.shard_search.specs.Union.{UnionView}

@@ -1,4 +1,4 @@
-use Rattle.std.proofs.Common.{◌≡◌, ◌<◌, List, length, slice_index_or, ap, ap₂, subst, sym, ◌∙◌}
+use Rattle.std.proofs.Common.{◌<◌, List, length, slice_index_or, ap, ap₂, subst, sym, ◌∙◌}
 use Rattle.shared_lemmas.proofs.Common.{slice_cmp, nat_cmp}
 use Rattle.index_layout.specs.View.{FileView}
 use Rattle.index_file.specs.Places.{term_at}
@@ -6,7 +6,6 @@ use Rattle.shard_search.proofs.Joins.{no_row}
 use Rattle.shard_search.proofs.Reading.{row_stands, row_there, text_is}
 use Rattle.shard_search.proofs.Unioned.{index_terms}
 use Rattle.shard_search.specs.Parts.{index_at}
-use Rattle.shard_search.specs.Private.Tables.{told_terms}
 use Rattle.shard_search.specs.Union.{UnionView, union_index}
 use Rattle.shard_search.specs.declared.rows.TermRow.{TermRow}
 use Rattle.shard_search.proofs.shards.Shards.order.Goals as goal

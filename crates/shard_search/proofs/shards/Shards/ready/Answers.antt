@@ -1,4 +1,3 @@
-use Rattle.std.proofs.Common.{◌≤◌, arith}
 use Rattle.shard_search.proofs.Cursors.{over_is, turns}
 use Rattle.shard_search.proofs.shards.Shards.ready.Goals as goal
 

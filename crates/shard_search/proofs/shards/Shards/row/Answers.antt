@@ -1,10 +1,8 @@
-use Rattle.std.proofs.Common.{◌≡◌, ◌<◌, ◌+◌, List, length, slice_index_or, slice_range, ap, subst, sym, ◌∙◌}
-use Rattle.index_model.specs.Index.{TermData}
+use Rattle.std.proofs.Common.{◌<◌, ◌+◌, List, length, slice_index_or, slice_range, ap, subst, sym, ◌∙◌}
 use Rattle.shard_search.proofs.Joins.{no_row}
 use Rattle.shard_search.proofs.Reading.{count_is, docs_are, impact_is, no_segment, row_there, segment_stands, segment_there}
 use Rattle.shard_search.proofs.Unioned.{index_terms}
 use Rattle.shard_search.specs.Parts.{pieces_docs}
-use Rattle.shard_search.specs.Private.Tables.{told_terms}
 use Rattle.shard_search.specs.Union.{UnionView, union_index}
 use Rattle.shard_search.specs.declared.rows.TermRow.{TermRow}
 use Rattle.shard_search.proofs.shards.Shards.row.Goals as goal

@@ -1,4 +1,4 @@
-use Rattle.std.proofs.Common.{◌≡◌, List, ◌++◌, slice_range, ap, ◌∙◌}
+use Rattle.std.proofs.Common.{List, ◌++◌, slice_range, ap, ◌∙◌}
 use Rattle.shard_search.proofs.Growing.{segment_grows}
 use Rattle.shard_search.proofs.Tables.{row_counts, row_is, row_pieces, row_some}
 use Rattle.shard_search.specs.Private.Tables.{row_segment}

@@ -1,4 +1,4 @@
-use Rattle.std.proofs.Common.{◌≡◌, ◌≤◌, ◌+◌, List, ◌++◌, length, slice_range, ap, ap₂, sym, ◌∙◌, arith}
+use Rattle.std.proofs.Common.{◌≡◌, ◌+◌, List, ◌++◌, length, slice_range, ap, ap₂, sym, ◌∙◌, arith}
 use Rattle.shared_lemmas.proofs.Common.{All-append, append_assoc, length-append}
 use Rattle.index_model.specs.Index.{SegmentData}
 use Rattle.shard_search.proofs.Growing.{segment_grows}

@@ -1,4 +1,4 @@
-use Rattle.std.proofs.Common.{List, [], ◌∷◌, slice_index_or, sym, subst, Less, Equal, Greater, ◌≢◌, rules}
+use Rattle.std.proofs.Common.{List, [], ◌∷◌, slice_index_or, sym, subst}
 use Rattle.shard_search.proofs.Spans.{both_move, ends, first_moves, second_moves}
 use Rattle.index_model.specs.Merging.{joined_segment}
 use Rattle.shard_search.specs.Private.Tables.{Grows, row_segment}

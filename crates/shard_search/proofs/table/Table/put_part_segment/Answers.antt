@@ -5,7 +5,7 @@ use Rattle.index_layout.specs.View.{FileView}
 use Rattle.index_file.specs.Places.{segment_at}
 use Rattle.shard_search.proofs.Growing.{segment_grows}
 use Rattle.shard_search.proofs.Pieces.{one_piece, piece_counted, piece_is}
-use Rattle.shard_search.specs.Parts.{IsPartSegment, base_of, file_at, index_at, pieces_docs}
+use Rattle.shard_search.specs.Parts.{IsPartSegment, base_of, file_at, index_at}
 use Rattle.index_model.specs.Unions.{raised_segment}
 use Rattle.shard_search.proofs.table.Table.put_part_segment.Goals as goal
 
