@@ -215,4 +215,4 @@ unfolding settles
 settles_is k bound limits scores a b c some is_a is_b is_c =
     let f : (bound == 0) ≡ false = ne_eqb bound 0 some in
     (λ i. is_a i && (is_b i && is_c i)) ∙ ap (λ z. z || (are_safe_within (slice_index limits) (first_ranked scores k)
-        && (do_untouched_stay k bound (first_ranked scores k) (least_untouched scores) && do_others_stay (slice_index limits) (first_ranked scores k) (ranked_behind scores k)))) (sym f)
+    && (do_untouched_stay k bound (first_ranked scores k) (least_untouched scores) && do_others_stay (slice_index limits) (first_ranked scores k) (ranked_behind scores k)))) (sym f)

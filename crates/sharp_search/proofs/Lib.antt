@@ -1,2 +1,4 @@
 pub mod Entering
 pub mod Heaviest
+pub mod Advancing
+pub mod Stops

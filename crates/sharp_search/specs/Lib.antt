@@ -1,1 +1,4 @@
 pub mod Deciding
+pub mod Fronts
+pub mod View
+pub mod Standing

@@ -46,7 +46,14 @@ pub fn is_settled(
 }
 
 /// Whether no hit can pass the one before it.
-fn hits_stay(scores: &Scores, pool: &FramePool, masks: &Masks, weights: &[u32], docs: u32, k: u32) -> bool
+fn hits_stay(
+    scores: &Scores,
+    pool: &FramePool,
+    masks: &Masks,
+    weights: &[u32],
+    docs: u32,
+    k: u32,
+) -> bool
     requires stand { ScoresStand scores.now pool.now }
     requires settled { IsSettled scores.now pool.now }
     requires docs { docs_of scores.now ≡ docs }
@@ -98,7 +105,14 @@ fn last_stays_before(hits: &[Hit], doc: u32, bound: u32) -> bool
 }
 
 /// Whether no document with a score that isn't a hit can enter.
-fn others_stay(scores: &Scores, pool: &FramePool, masks: &Masks, weights: &[u32], docs: u32, k: u32) -> bool
+fn others_stay(
+    scores: &Scores,
+    pool: &FramePool,
+    masks: &Masks,
+    weights: &[u32],
+    docs: u32,
+    k: u32,
+) -> bool
     requires stand { ScoresStand scores.now pool.now }
     requires settled { IsSettled scores.now pool.now }
     requires docs { docs_of scores.now ≡ docs }
@@ -120,7 +134,14 @@ fn others_stay(scores: &Scores, pool: &FramePool, masks: &Masks, weights: &[u32]
 }
 
 /// Whether each document stays out, where this is the last hit.
-fn none_enters(scores: &Scores, pool: &FramePool, masks: &Masks, weights: &[u32], docs: u32, last: Hit) -> bool
+fn none_enters(
+    scores: &Scores,
+    pool: &FramePool,
+    masks: &Masks,
+    weights: &[u32],
+    docs: u32,
+    last: Hit,
+) -> bool
     requires stand { ScoresStand scores.now pool.now }
     requires docs { docs_of scores.now ≡ docs }
     requires masks { length masks.now.masks ≡ docs }
@@ -138,7 +159,14 @@ fn none_enters(scores: &Scores, pool: &FramePool, masks: &Masks, weights: &[u32]
     true
 }
 
-fn stays_out(scores: &Scores, pool: &FramePool, masks: &Masks, weights: &[u32], last: Hit, doc: u32) -> bool
+fn stays_out(
+    scores: &Scores,
+    pool: &FramePool,
+    masks: &Masks,
+    weights: &[u32],
+    last: Hit,
+    doc: u32,
+) -> bool
     requires stand { ScoresStand scores.now pool.now }
     requires inside { doc < docs_of scores.now }
     requires masks { doc < length masks.now.masks }

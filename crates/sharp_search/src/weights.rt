@@ -29,6 +29,8 @@ pub fn tables_of<S: Source>(alloc: Global, source: &S, query: &Query) -> Result<
     ensures planned { IfOk result (λ t. IsPlanned (S.index source.now) query.now.terms t.plan) }
     ensures masks { IfOk result (λ t. t.masks.masks ≡ replicate (length (S.index source.now).names) 0) }
     ensures frames { IfOk result (λ t. t.masks.frames ≡ page_count (length (S.index source.now).names)) }
+    ensures each { IfOk result (λ t. length t.masks.masks ≡ length (S.index source.now).names) }
+    ensures many { IfOk result (λ t. length t.weights.items ≡ length query.now.terms) }
     ensures weights { IfOk result
         (λ t. t.weights.items ≡ next_weights 0 (session_plan (S.index source.now) query.now.terms)) }
 {

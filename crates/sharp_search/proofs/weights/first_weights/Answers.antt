@@ -16,6 +16,8 @@ raise-requires c =
 
 pub entries-preserved : goal.entries-preserved
 entries-preserved c =
-    let test = c.entries-test.true in
-    (raised_at c.args.terms c.entries.from (c.entries.from - 1) c.entry.result c.args.plan.now.entries c.entries.weights.items c.raise.new.weights.items (omega (arith, test)) c.entry.ensures
-    (there (λ (e : PlanEntry). e.term_place < c.args.terms) c.args.plan.now.entries (c.entries.from - 1) c.entry.result c.entry.ensures c.requires) c.entries.invariant.0 c.raise.ensures, omega (arith, c.entries.invariant.1))
+    let test = c.entries-test.true in (
+      raised_at c.args.terms c.entries.from (c.entries.from - 1) c.entry.result c.args.plan.now.entries c.entries.weights.items c.raise.new.weights.items (omega (arith, test)) c.entry.ensures
+          (there (λ (e : PlanEntry). e.term_place < c.args.terms) c.args.plan.now.entries (c.entries.from - 1) c.entry.result c.entry.ensures c.requires) c.entries.invariant.0 c.raise.ensures,
+      omega (arith, c.entries.invariant.1),
+    )
