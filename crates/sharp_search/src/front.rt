@@ -20,7 +20,7 @@ use frame_pool::laws::calls_on_one_chain;
 use index_file::Source;
 use jass_base::{Grade, QueryTerm, Report, Steps};
 use segment_plan::Plan;
-use segment_plan::laws::{prefixes_are_those_of_the_plan, weights_are_those_of_the_plan};
+use segment_plan::laws::weights_are_those_of_the_plan;
 use session_engine::laws::{
     a_session_plan_is_small, a_session_plan_names_its_segments, one_entry_more_is_scored,
 };
