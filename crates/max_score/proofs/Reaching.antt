@@ -6,7 +6,7 @@ use Rattle.shared_lemmas.proofs.Members.{In, all_in}
 use Rattle.shared_lemmas.proofs.Pairs.{Pairs, pairs_by_recursion, rising_pairs}
 use Rattle.jass_base.specs.declared.answer.Hit.{Hit}
 use Rattle.ranking_model.specs.Scores.{rank_cmp}
-use Rattle.index_model.specs.Index.{FallsTo, IndexData, IsIndex, IsSegment, IsTerm, SegmentData, SharesNoDocument}
+use Rattle.index_model.specs.Index.{FallsTo, IndexData, IsWellFormed, IsSegment, IsTerm, SegmentData, SharesNoDocument}
 use Rattle.index_file.specs.Places.{segment_at}
 use Rattle.index_model.specs.Querying.{segments_at}
 use Rattle.max_score.specs.Cursors.{CursorView, impact_in, postings_in}
@@ -119,7 +119,7 @@ rising_all docs (s ∷ segments) all = (rising_pairs s.docs all.0.docs.rising, r
 
 -- ---- a list whose first segments have k postings
 
-module _ (index : IndexData) (list : TermList) (is : IsIndex index) (known : list.cursor.term < length index.terms) (read : IsRead index list) where
+module _ (index : IndexData) (list : TermList) (is : IsWellFormed index) (known : list.cursor.term < length index.terms) (read : IsRead index list) where
   abbrev segments : List SegmentData
   segments = segments_at index.terms list.cursor.term
 

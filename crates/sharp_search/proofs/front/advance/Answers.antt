@@ -2,7 +2,7 @@ use Rattle.shared_lemmas.proofs.Common.{◌≡◌, ℕ, ◌+◌, ◌-◌, ◌<�
 use Rattle.jass_base.specs.declared.query_term.QueryTerm.{QueryTerm}
 use Rattle.ranking_model.specs.Postings.{AreTerms}
 use Rattle.ranking_model.specs.Scores.{bound_after}
-use Rattle.index_model.specs.Index.{IndexData, IsIndex}
+use Rattle.index_model.specs.Index.{IndexData, IsWellFormed}
 use Rattle.segment_plan.specs.declared.entry.PlanEntry.{PlanEntry}
 use Rattle.segment_plan.specs.Entries.{PlanView}
 use Rattle.segment_plan.specs.Shape.{HasShape}
@@ -14,17 +14,17 @@ use Rattle.sharp_bounds.specs.Rule.{is_sharp}
 use Rattle.sharp_search.proofs.Advancing.{bound_falls, lowered, still_open, weight_falls_by}
 use Rattle.sharp_search.proofs.front.advance.Goals as goal
 
-has_entry : {index : IndexData} {terms : List QueryTerm} {plan : PlanView} {n : ℕ} {entry : PlanEntry} → IsIndex index → AreTerms terms → IsPlanned index terms plan
+has_entry : {index : IndexData} {terms : List QueryTerm} {plan : PlanView} {n : ℕ} {entry : PlanEntry} → IsWellFormed index → AreTerms terms → IsPlanned index terms plan
     → slice_get plan.entries n ≡ Some entry → HasEntry index terms n entry
 has_entry {n = n} {entry} is named planned at =
-    record { is_index = is; named = named; known = planned.known; at = subst (λ (p : PlanView). slice_get p.entries n ≡ Some entry) planned.arranged at }
+    record { is_well_formed = is; named = named; known = planned.known; at = subst (λ (p : PlanView). slice_get p.entries n ≡ Some entry) planned.arranged at }
 
 pub overflow_sub-bound : goal.overflow_sub-bound
 overflow_sub-bound g c =
     let index = g.S.Source.index c.args.source.now in let terms = c.args.terms.now in let plan = session_plan index terms in let n = c.args.front.now.scored in
     let stands = c.requires.stands in
-    let has : HasShape c.args.plan.now plan = subst (λ (p : PlanView). HasShape p plan) (sym c.requires.planned.arranged) (c.a_session_plan_names_its_segments.ensures.shape index terms c.is_searchable.ensures.is_index c.requires.terms c.requires.planned.known) in
-    let entry : HasEntry index terms n c.entry-entry.result = has_entry c.is_searchable.ensures.is_index c.requires.terms c.requires.planned c.entry-entry.ensures in
+    let has : HasShape c.args.plan.now plan = subst (λ (p : PlanView). HasShape p plan) (sym c.requires.planned.arranged) (c.a_session_plan_names_its_segments.ensures.shape index terms c.is_searchable.ensures.is_well_formed c.requires.terms c.requires.planned.known) in
+    let entry : HasEntry index terms n c.entry-entry.result = has_entry c.is_searchable.ensures.is_well_formed c.requires.terms c.requires.planned c.entry-entry.ensures in
     let at = c.one_entry_more_is_scored.ensures.segment index terms n c.entry-entry.result entry in
     let inside : c.entry-entry.result.term_place < plan.terms = (let place = (c.one_entry_more_is_scored.ensures.names index terms n c.entry-entry.result entry).term_place in
     let many = has.terms ∙ ap (λ (p : PlanView). p.terms) c.requires.planned.arranged in omega (arith, place, many)) in
@@ -38,8 +38,8 @@ pub lower-requires-clause-inside : goal.lower-requires-clause-inside
 lower-requires-clause-inside g c =
     let index = g.S.Source.index c.args.source.now in let terms = c.args.terms.now in let plan = session_plan index terms in let n = c.args.front.now.scored in
     let stands = c.requires.stands in
-    let has : HasShape c.args.plan.now plan = subst (λ (p : PlanView). HasShape p plan) (sym c.requires.planned.arranged) (c.a_session_plan_names_its_segments.ensures.shape index terms c.is_searchable.ensures.is_index c.requires.terms c.requires.planned.known) in
-    let entry : HasEntry index terms n c.entry-entry.result = has_entry c.is_searchable.ensures.is_index c.requires.terms c.requires.planned c.entry-entry.ensures in
+    let has : HasShape c.args.plan.now plan = subst (λ (p : PlanView). HasShape p plan) (sym c.requires.planned.arranged) (c.a_session_plan_names_its_segments.ensures.shape index terms c.is_searchable.ensures.is_well_formed c.requires.terms c.requires.planned.known) in
+    let entry : HasEntry index terms n c.entry-entry.result = has_entry c.is_searchable.ensures.is_well_formed c.requires.terms c.requires.planned c.entry-entry.ensures in
     let at = c.one_entry_more_is_scored.ensures.segment index terms n c.entry-entry.result entry in
     let inside : c.entry-entry.result.term_place < plan.terms = (let place = (c.one_entry_more_is_scored.ensures.names index terms n c.entry-entry.result entry).term_place in
     let many = has.terms ∙ ap (λ (p : PlanView). p.terms) c.requires.planned.arranged in omega (arith, place, many)) in
@@ -50,8 +50,8 @@ pub lower-requires-clause-by : goal.lower-requires-clause-by
 lower-requires-clause-by g c =
     let index = g.S.Source.index c.args.source.now in let terms = c.args.terms.now in let plan = session_plan index terms in let n = c.args.front.now.scored in
     let stands = c.requires.stands in
-    let has : HasShape c.args.plan.now plan = subst (λ (p : PlanView). HasShape p plan) (sym c.requires.planned.arranged) (c.a_session_plan_names_its_segments.ensures.shape index terms c.is_searchable.ensures.is_index c.requires.terms c.requires.planned.known) in
-    let entry : HasEntry index terms n c.entry-entry.result = has_entry c.is_searchable.ensures.is_index c.requires.terms c.requires.planned c.entry-entry.ensures in
+    let has : HasShape c.args.plan.now plan = subst (λ (p : PlanView). HasShape p plan) (sym c.requires.planned.arranged) (c.a_session_plan_names_its_segments.ensures.shape index terms c.is_searchable.ensures.is_well_formed c.requires.terms c.requires.planned.known) in
+    let entry : HasEntry index terms n c.entry-entry.result = has_entry c.is_searchable.ensures.is_well_formed c.requires.terms c.requires.planned c.entry-entry.ensures in
     let at = c.one_entry_more_is_scored.ensures.segment index terms n c.entry-entry.result entry in
     let inside : c.entry-entry.result.term_place < plan.terms = (let place = (c.one_entry_more_is_scored.ensures.names index terms n c.entry-entry.result entry).term_place in
     let many = has.terms ∙ ap (λ (p : PlanView). p.terms) c.requires.planned.arranged in omega (arith, place, many)) in
@@ -65,8 +65,8 @@ pub returns-clause-stands : goal.returns-clause-stands
 returns-clause-stands g c =
     let index = g.S.Source.index c.args.source.now in let terms = c.args.terms.now in let plan = session_plan index terms in let n = c.args.front.now.scored in
     let stands = c.requires.stands in
-    let has : HasShape c.args.plan.now plan = subst (λ (p : PlanView). HasShape p plan) (sym c.requires.planned.arranged) (c.a_session_plan_names_its_segments.ensures.shape index terms c.is_searchable.ensures.is_index c.requires.terms c.requires.planned.known) in
-    let entry : HasEntry index terms n c.entry-entry.result = has_entry c.is_searchable.ensures.is_index c.requires.terms c.requires.planned c.entry-entry.ensures in
+    let has : HasShape c.args.plan.now plan = subst (λ (p : PlanView). HasShape p plan) (sym c.requires.planned.arranged) (c.a_session_plan_names_its_segments.ensures.shape index terms c.is_searchable.ensures.is_well_formed c.requires.terms c.requires.planned.known) in
+    let entry : HasEntry index terms n c.entry-entry.result = has_entry c.is_searchable.ensures.is_well_formed c.requires.terms c.requires.planned c.entry-entry.ensures in
     let at = c.one_entry_more_is_scored.ensures.segment index terms n c.entry-entry.result entry in
     let inside : c.entry-entry.result.term_place < plan.terms = (let place = (c.one_entry_more_is_scored.ensures.names index terms n c.entry-entry.result entry).term_place in
     let many = has.terms ∙ ap (λ (p : PlanView). p.terms) c.requires.planned.arranged in omega (arith, place, many)) in

@@ -11,7 +11,7 @@ returns-clause-weights g c =
     let index = g.S.Source.index c.args.source.now in let terms = c.args.query.now.terms in
     let are : AreTerms terms = record { few = c.args.query.now.few; named = c.args.query.now.named; differ = c.args.query.now.differ } in
     let has : HasShape c.in_ok-plan.plan (session_plan index terms) = subst (λ (p : PlanView). HasShape p (session_plan index terms)) (sym c.in_ok-plan.ensures.arranged)
-    (c.a_session_plan_names_its_segments.ensures.shape index terms c.is_searchable.ensures.is_index are c.requires.known) in
+    (c.a_session_plan_names_its_segments.ensures.shape index terms c.is_searchable.ensures.is_well_formed are c.requires.known) in
     c.in_ok-weights.ensures ∙ as_defined c.in_ok-plan.plan (session_plan index terms) (length c.as_slice.result.now) has
     (has.terms ∙ ap (λ (p : PlanView). p.terms) c.in_ok-plan.ensures.arranged ∙ ap length (sym c.as_slice.ensures))
 

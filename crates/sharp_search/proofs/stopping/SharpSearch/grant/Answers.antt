@@ -15,7 +15,7 @@ advance_to-more-requires-clause-order g c =
     let s = c.self.inside in let index = g.S.Source.index c.args.source.now in let plan = session_plan index s.query.terms in
     let stands = subst (λ (v : SearchView). SharpStands v index c.args.pool.now) (sym c.self.view_is) c.requires.stands in
     let are : AreTerms s.query.terms = record { few = s.query.few; named = s.query.named; differ = s.query.differ } in
-    let has : HasShape s.plan plan = subst (λ (p : PlanView). HasShape p plan) (sym stands.planned.arranged) (c.a_session_plan_names_its_segments.ensures.shape index s.query.terms c.is_searchable.ensures.is_index are stands.planned.known) in
+    let has : HasShape s.plan plan = subst (λ (p : PlanView). HasShape p plan) (sym stands.planned.arranged) (c.a_session_plan_names_its_segments.ensures.shape index s.query.terms c.is_searchable.ensures.is_well_formed are stands.planned.known) in
     let low : s.granted ≤ c.granted_with-self-inside.result = omega (arith, c.self.ranges, c.granted_with-self-inside.ensures) in
     let fits = c.the_prefix_is_the_longest.ensures.fits s.granted plan.segments in
     let more = c.the_prefix_is_the_longest.ensures.longest c.granted_with-self-inside.result (prefix_within s.granted plan.segments) plan.segments (c.the_prefix_is_the_longest.ensures.there s.granted plan.segments) (omega (arith, fits, low)) in
