@@ -1,5 +1,7 @@
 // The postings of a term by rising document: what a cursor shows first, and what it drops.
 
+ghost use Rattle.std.specs.Prelude.{◌≡◌, ◌<◌};
+
 use index_file::IndexFile;
 use jass_base::{Row, Steps};
 use max_score::TermCursor;
