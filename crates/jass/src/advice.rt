@@ -37,7 +37,9 @@ impl<'a, W: Write + Drop> Advice<'a, W> {
             return self.on_fault();
         }
         match note {
-            "no memory" => self.line(&["a smaller k, fewer frames or a smaller collection takes less"]),
+            "no memory" => self.line(&[
+                "a smaller k, fewer frames or a smaller collection takes less",
+            ]),
             "input limit" => self.line(&["send `end`, and start it anew"]),
             _ => Ok(()),
         }

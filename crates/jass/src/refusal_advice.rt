@@ -12,15 +12,18 @@ pub fn refusal_advice(number: &str) -> &'static str {
         "17" => "it has a frequency of 0: leave such postings out",
         "18" => "it has two lists of one term: join them",
         "19" => "it has two records of one document: leave one out",
-        "20" => "a document's name is empty, too long, or has a blank or a control character: change it",
+        "20" =>
+            "a document's name is empty, too long, or has a blank or a control character: change it",
         "21" => "it goes on behind its last message: see whether two files were joined",
-        "22" => "it is above a limit, or has a term of more than 65,535 bytes: split the collection",
+        "22" =>
+            "it is above a limit, or has a term of more than 65,535 bytes: split the collection",
         "23" => "it was changed while it was read: import it again once nobody writes it",
         "30" | "31" | "32" | "33" => "a payload is damaged: copy the file again, or import it anew",
         "39" => "it is an index of version 1: `jass migrate` writes it in version 2",
         "40" => "it is no index file: give what `jass import` made",
         "41" => "it is cut, or longer than it says: copy it again",
-        "42" | "43" | "44" => "a name, a term or a head is damaged: copy the file again, or import it anew",
+        "42" | "43" | "44" =>
+            "a name, a term or a head is damaged: copy the file again, or import it anew",
         "46" | "47" => "its postings or totals don't hold: copy the file again, or import it anew",
         "48" => "it is above a limit: split the collection",
         "49" => "its index would have more than 2^32 bytes: fewer bits, or split the collection",

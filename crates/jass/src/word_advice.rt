@@ -26,8 +26,18 @@ pub fn meaning_of_form(word: &str) -> &'static str {
         "frames=N" => "a number of frames, 1 to 1048576, as frames=65536",
         "SEED" => "a number below 2147483648",
         "DOCS" | "TERMS" => "a number, 1 to 1048576",
-        "QUERIES" | "RUN*" | "RUN" | "REPORTS" | "INDEX" | "INDEX*" | "CIFF" | "CIFF*" | "FROM"
-        | "TO*" | "OLD" | "NEW*" => "a file's name, other than those before it",
+        "QUERIES"
+        | "RUN*"
+        | "RUN"
+        | "REPORTS"
+        | "INDEX"
+        | "INDEX*"
+        | "CIFF"
+        | "CIFF*"
+        | "FROM"
+        | "TO*"
+        | "OLD"
+        | "NEW*" => "a file's name, other than those before it",
         _ => "",
     }
 }

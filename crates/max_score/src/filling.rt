@@ -40,7 +40,10 @@ pub fn new_lists<S: Source>(
 /// one piece. Of many small pieces that are let go together they give the memory back to the system, so that each query
 /// would have to take its pages anew.
 fn ask_for_all(alloc: Global, docs: u32, lists: usize) {
-    let room: Result<Vec<u16>, _> = Vec::with_capacity(alloc, (docs as usize).saturating_mul(lists));
+    let room: Result<Vec<u16>, _> = Vec::with_capacity(
+        alloc,
+        (docs as usize).saturating_mul(lists),
+    );
     drop(room);
 }
 
