@@ -2,13 +2,19 @@ use jass_words::{NAMES, Name};
 
 /// What may stand at a place behind a command's name, counted from 0, by the words that the help shows there.
 pub fn wanted_at(form: &str, place: usize) -> &str {
-    let mut last = "";
     for (n, word) in form.split(' ').enumerate() {
         if n == place {
             return word;
         }
-        last = word;
     }
+    match form.rsplit_once(' ') {
+        Some((_, last)) => open_ended(last),
+        None => open_ended(form),
+    }
+}
+
+/// The last word of a form where more may stand behind it: options and terms; else nothing.
+fn open_ended(last: &str) -> &str {
     if last.starts_with('[') || last == "TERM.." {
         last
     } else {

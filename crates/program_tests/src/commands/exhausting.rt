@@ -1,5 +1,7 @@
 // Queries answered document at a time, by all postings: run lines and the lines of hits.
 
+ghost use Rattle.std.specs.Prelude.{◌<◌};
+
 use super::searching::{CAT_DOG, NOTHING, OLD, searched};
 use super::{
     Bad, LEVEL_AT_LAST, Made, NONE, ONE_TERM, TWO_TERMS, cabinet_with, check_left, listed, made_by,
