@@ -16,7 +16,7 @@ import tempfile
 # The words, the note, and what the advice must hold.
 CASES = [
     ([], "word 1", ["a word is missing", "jass --help"]),
-    (["serach", "x"], "word 1", ["the word is serach", "did you mean search?", "jass --help"]),
+    (["seach", "x"], "word 1", ["the word is seach", "did you mean search?", "jass --help"]),
     (["zzz"], "word 1", ["the word is zzz", "jass --help"]),
     (["search", "a.idx"], "word 3", ["a word is missing", "here stands QUERIES", "usage: jass search INDEX QUERIES RUN*"]),
     (["search", "a.idx", "q", "r", "kk=3"], "word 5", ["the word is kk=3", "an option may stand", "usage: jass search"]),
