@@ -26,6 +26,8 @@ mod scores;
 #[cfg(test)]
 mod sessions;
 #[cfg(test)]
+mod shards;
+#[cfg(test)]
 mod texts;
 #[cfg(test)]
 mod trials;

@@ -2,7 +2,7 @@ use crate::file_kind::file_kind;
 use crate::host_cabinet::HostCabinet;
 use crate::host_sink::HostSink;
 use crate::refusal_advice::refusal_advice;
-use crate::word_advice::{meaning_of_form, nearest, wanted_at};
+use crate::word_advice::{meaning_of_form, nearest, place_in_shards, wanted_at};
 use jass_base::{Failed, Sink, read_decimal};
 use jass_words::{Name, Row};
 use std::alloc::Global;
@@ -56,11 +56,25 @@ impl<'a, W: Write + Drop> Advice<'a, W> {
         }
         match words.first() {
             Some(word) if place > 1 => match Name::of(word.as_str()) {
-                Some(name) => self.on_form(name.row(), place.saturating_sub(2)),
+                Some(name) => self.on_form(
+                    name.row(),
+                    self.place_in_form(name, place.saturating_sub(2)),
+                ),
                 None => self.on_name(word.as_str()),
             },
             Some(word) => self.on_name(word.as_str()),
             None => self.line(&["jass --help shows the commands"]),
+        }
+    }
+
+    /// The place in the form of a command of the word at a place behind its name.
+    fn place_in_form(&self, name: Name, place: usize) -> usize {
+        match (name, self.words.get(1)) {
+            (Name::Shards, Some(word)) => {
+                let parts = read_decimal(word.as_bytes()).unwrap_or(2) as usize;
+                place_in_shards(place, parts)
+            }
+            _ => place,
         }
     }
 

@@ -13,6 +13,18 @@ pub fn wanted_at(form: &str, place: usize) -> &str {
     }
 }
 
+/// The place in the form of `shards` of the word at a place behind its name, where it names so many parts: the form has
+/// three words for them.
+pub fn place_in_shards(place: usize, parts: usize) -> usize {
+    if place == 0 {
+        0
+    } else if place <= parts {
+        1
+    } else {
+        place.saturating_sub(parts).saturating_add(3)
+    }
+}
+
 /// The last word of a form where more may stand behind it: options and terms; else nothing.
 fn open_ended(last: &str) -> &str {
     if last.starts_with('[') || last == "TERM.." {
@@ -30,6 +42,7 @@ pub fn meaning_of_form(word: &str) -> &'static str {
         "[tag=TAG]" => "1 to 64 visible ASCII characters",
         "TERM.." => "1 to 255 terms",
         "frames=N" => "a number of frames, 1 to 1048576, as frames=65536",
+        "N" => "a number of parts, 2 to 16",
         "SEED" => "a number below 2147483648",
         "DOCS" | "TERMS" => "a number, 1 to 1048576",
         "QUERIES"
@@ -38,6 +51,7 @@ pub fn meaning_of_form(word: &str) -> &'static str {
         | "REPORTS"
         | "INDEX"
         | "INDEX*"
+        | "INDEX1"
         | "CIFF"
         | "CIFF*"
         | "FROM"

@@ -55,7 +55,7 @@ pub use Rattle.jass_base.specs.declared.postings_list.PostingsList.{PostingsList
 pub use Rattle.jass_base.specs.declared.query.Query.{Query}
 pub use Rattle.jass_base.specs.declared.query_term.QueryTerm.{QueryTerm}
 pub use Rattle.jass_words.specs.Commands.{command_data}
-pub use Rattle.jass_words.specs.Words.{Audit, Check, CommandData, Exhaust, Export, Help, Import, IsCommand, IsTrialSize, Migrate, Once, Rewrite, Search, Serve, Trial, Version, texts}
+pub use Rattle.jass_words.specs.Words.{Audit, Check, CommandData, Exhaust, Export, Help, Import, IsCommand, IsTrialSize, Migrate, Once, Rewrite, Search, Serve, Shards, Trial, Version, texts}
 pub use Rattle.jass_words.specs.declared.command.Command.{Command}
 pub use Rattle.jass_words.specs.declared.word_limits.TheConstants.{MOST_TAKEN}
 pub use Rattle.query_reader.specs.Reading.{read_query_file}

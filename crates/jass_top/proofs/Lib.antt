@@ -15,6 +15,7 @@ pub mod JudgedAudit
 pub mod JudgedFiles
 pub mod JudgedQueries
 pub mod JudgedSearch
+pub mod JudgedShards
 pub mod MadeFiles
 pub mod Making
 pub mod MemoryFiles

@@ -1,6 +1,6 @@
 -- A command has one output for its inputs.
 use Rattle.shared_lemmas.proofs.Common.{◌≡◌, ℕ, List, [], ◌∷◌, refl, sym, ap, ◌∙◌, sum_by, AllZip}
-use Rattle.jass_top.proofs.Below.{Entry, Grade, Report, QueryPlan, numbered_flat, IsGrade, IsReport, QueryData, prefixes_granted, report_lines, IndexData, CommandData, Once, Search, Audit, Serve, Trial, trial_queries}
+use Rattle.jass_top.proofs.Below.{Entry, Grade, Report, QueryPlan, numbered_flat, IsGrade, IsReport, QueryData, prefixes_granted, report_lines, IndexData, CommandData, Once, Search, Shards, Audit, Serve, Trial, trial_queries}
 use Rattle.ranking_model.specs.Report.{report_of}
 use Rattle.trec_run.specs.declared.run_line.RunLine.{RunLine}
 use Rattle.run_audit.specs.declared.verdict.Verdict.{Verdict}
@@ -94,6 +94,7 @@ module _ (one_grade : (scores : List ℕ) (k bound : ℕ) (first second : Grade)
   pub one_output : (command : CommandData) → HasOneOutput (meaning_of command)
   one_output (Once ciff k budget terms) = λ inputs input one other is theirs. same_texts other one other (same_answer (record { k = k; budget = budget; words = terms }) inputs one other is theirs) refl
   one_output (Search index queries run k limits tag mode) = λ inputs input one other is theirs. same_texts other one other (same_search (search_within k limits tag) inputs one other is theirs) refl
+  one_output (Shards indexes queries run k limits tag mode) = λ inputs input one other is theirs. same_texts other one other (same_search (search_within k limits tag) inputs one other is theirs) refl
   one_output (Audit index queries run reports k limits tag mode) = λ inputs input one other is theirs.
       same_texts other one other (same_audit (record { k = k; budgets = limits; tag = tag }) inputs one other is theirs) refl
   one_output (Serve index frames) = λ file input one other is theirs. (is.content ∙ sym theirs.content, is.text ∙ sym theirs.text)

@@ -3,14 +3,15 @@ use Rattle.shared_lemmas.proofs.Common.{◌≡◌, ℕ, zero, suc, ◌==◌, Lis
 use Rattle.std.proofs.Common.{flat_map}
 use Rattle.std.specs.List.{last_or, range_with_len, sum_by}
 use Rattle.std.specs.Option.{unwrap_or}
-use Rattle.jass_top.proofs.Below.{Budget, Report, QueryTerm, Files, AppendsPrefix, Entry, QueryPlan, IsFlat, IndexData, PlanSegment, plan_of, weighted_postings, IsPromised, IsReport, granted_sum, prefix_within, size_of_first, report_line, top_k, QueryData, first_part, prefix_granted, prefixes_granted, report_lines, run_parts, report_by, numbered_flat, Mode}
+use Rattle.jass_top.proofs.Below.{Budget, Report, QueryTerm, Files, AppendsPrefix, Entry, QueryPlan, IsFlat, IndexData, PlanSegment, plan_of, weighted_postings, IsPromised, IsReport, granted_sum, prefix_within, size_of_first, report_line, top_k, QueryData, first_part, prefix_granted, prefixes_granted, report_lines, run_parts, report_by, numbered_flat}
 use Rattle.index_file.specs.Sources.{IsSearchable}
 use Rattle.ranking_model.specs.Search as model
 use Rattle.session_engine.specs.Plans.{session_plan}
 use Rattle.jass_top.specs.QueryJudging.{LineQuery, without_lines}
-use Rattle.jass_top.specs.SearchMeaning.{AreSearchReports, IsSearchOutput, IsSearchReport, Search, SearchInputs, judge_search, plan_over_index, postings_within, scored_in, search_meaning, search_within}
+use Rattle.jass_top.specs.SearchMeaning.{AreSearchReports, IsSearchOutput, IsSearchReport, Search, SearchInputs, plan_over_index, postings_within, scored_in, search_within, searching_meaning}
 use Rattle.jass_top.specs.SearchTexts.{budgets_output, first_part_of, parts_reports, parts_run, plan_for, prefixes_for, query_run, search_output, stops_for, stops_run}
 use Rattle.jass_top.specs.Endings.{Over}
+use Rattle.jass_top.specs.Judging.{Judged}
 use Rattle.jass_top.specs.Private.Inputs.{HasInput}
 use Rattle.jass_top.specs.Standing.{LeavesFront, OfOutput, PartOfEach}
 use Rattle.jass_top.specs.Worlds.{Outer}
@@ -130,11 +131,11 @@ exact_for law held k budgets tag asked inputs searchable are =
     subst (λ (queries : List QueryData). IsSearchOutput (search_within k budgets tag) inputs (budgets_output held k budgets tag queries)) are.1
     (subst (λ (index : IndexData). IsSearchOutput (search_within k budgets tag) (record { index = index; queries = inputs.queries }) (budgets_output held k budgets tag (without_lines inputs.queries))) (sym are.0) (law held k budgets tag inputs.queries searchable))
 
-pub part_left : LeaveOutputs → (index queries run : List ℕ) (k : ℕ) (budgets : List Budget) (tag : List ℕ) (mode : Mode) (held : IndexData) (asked : List QueryData) (told : Option Files) (before after : Outer) → IsSearchable held → told ≡ before.told
-    → HasInput (judge_search index queries mode before.told) (AreInputs held asked) → LeavesFront (Some run) told after.told (budgets_output held k budgets tag asked).content
+pub part_left : LeaveOutputs → (names : List (List ℕ)) (judge : Option Files → Judged SearchInputs) (run : List ℕ) (k : ℕ) (budgets : List Budget) (tag : List ℕ) (held : IndexData) (asked : List QueryData) (told : Option Files) (before after : Outer) → IsSearchable held → told ≡ before.told
+    → HasInput (judge before.told) (AreInputs held asked) → LeavesFront (Some run) told after.told (budgets_output held k budgets tag asked).content
     → AppendsPrefix before.written after.written (budgets_output held k budgets tag asked).text → (before.steps ≤ after.steps) × (after.steps ≤ before.steps + (budgets_output held k budgets tag asked).steps)
-    → Over (search_meaning index queries run (search_within k budgets tag) mode) (OfOutput (IsSearchOutput (search_within k budgets tag)) (PartOfEach run)) before after
-part_left law index queries run k budgets tag mode held asked told before after searchable same had content text steps = record {
+    → Over (searching_meaning names judge run (search_within k budgets tag)) (OfOutput (IsSearchOutput (search_within k budgets tag)) (PartOfEach run)) before after
+part_left law names judge run k budgets tag held asked told before after searchable same had content text steps = record {
   inputs = had.input;
   accepted = had.accepted;
   stands = record {

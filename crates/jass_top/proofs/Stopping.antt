@@ -1,5 +1,5 @@
 -- How a command ran, from how it came to its end: what it doesn't take stays.
-use Rattle.std.proofs.Common.{◌≡◌, ◌≤◌, ◌+◌, ℕ, List, [], ◌∷◌, true, false, Result, refl, inl, sym, subst, ◌∙◌, arith}
+use Rattle.std.proofs.Common.{◌≡◌, ◌≤◌, ◌+◌, ℕ, List, [], ◌∷◌, ◌++◌, true, false, Result, refl, inl, sym, subst, ◌∙◌, arith}
 use Rattle.jass_top.specs.declared.stop.Stop.{Stop}
 use Rattle.jass_top.specs.declared.stop.Stop.TheVariants as stops
 use Rattle.jass_top.specs.Causes.{IsOneOf}
@@ -33,6 +33,11 @@ module _ {m : Meaning} {x y : Outer} {result : Result (Unit {0}) Stop} where
     };
     taken = λ is. (let bad : false ≡ true = sym feeds ∙ is in cc);
   }
+
+  -- files that end with one of their own, and the output
+  pub ran_on_all : (names : List (List ℕ)) (last : List ℕ) → m.files ≡ names ++ last ∷ [] → m.prints ≡ true → m.feeds ≡ false → y.left ≡ x.left → y.feed_faults ≡ x.feed_faults → y.out_rest ≡ x.out_rest → Came m x y result → Runs m x y result
+  ran_on_all [] last files = ran_on_both files
+  ran_on_all (name ∷ names) last files = ran_on_both files
 
   -- files alone
   pub ran_on_files : {name : List ℕ} {more : List (List ℕ)} → m.files ≡ name ∷ more → m.feeds ≡ false → y.written ≡ x.written → y.out_faults ≡ x.out_faults → y.left ≡ x.left → y.feed_faults ≡ x.feed_faults → y.out_rest ≡ x.out_rest

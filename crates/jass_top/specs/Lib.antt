@@ -19,6 +19,7 @@ pub mod RewriteMeaning
 pub mod SearchMeaning
 pub mod SearchTexts
 pub mod ServeMeaning
+pub mod ShardsMeaning
 pub mod Standing
 pub mod Stops
 pub mod TextMeaning

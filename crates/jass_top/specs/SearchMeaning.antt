@@ -90,11 +90,14 @@ pub record IsSearchOutput (search : Search) (inputs : SearchInputs) (output : Ou
   pub reports : AreReportLines (AreSearchReports inputs.index search) (without_lines inputs.queries) output.text
   pub steps : output.steps ≡ sum_by (scored_postings inputs.index search.stops) (without_lines inputs.queries)
 
--- it writes and prints while it still takes memory
-abbrev pub search_meaning : List ℕ → List ℕ → List ℕ → Search → Mode → Meaning
-search_meaning index queries run search mode =
-    record (reading_meaning (index ∷ queries ∷ []) (judge_search index queries mode) (IsSearchOutput search)
-    (OfOutput (IsSearchOutput search) (PartOfEach run))) {
+-- a search of inputs of these names writes and prints while it still takes memory
+abbrev pub searching_meaning : List (List ℕ) → (Option Files → Judged SearchInputs) → List ℕ → Search → Meaning
+searching_meaning names judge run search =
+    record (reading_meaning names judge (IsSearchOutput search) (OfOutput (IsSearchOutput search) (PartOfEach run))) {
       file = Some run;
       AtMemory = OfOutput (IsSearchOutput search) (PartOfEach run);
     }
+
+abbrev pub search_meaning : List ℕ → List ℕ → List ℕ → Search → Mode → Meaning
+search_meaning index queries run search mode =
+    searching_meaning (index ∷ queries ∷ []) (judge_search index queries mode) run search

@@ -16,6 +16,7 @@ use crate::once::run_once;
 use crate::rewrite::run_rewrite;
 use crate::search::run_search;
 use crate::serve::run_serve;
+use crate::shards::run_shards;
 use crate::stop::Stop;
 use crate::trial::run_trial;
 use crate::version::run_version;
@@ -61,6 +62,7 @@ fn written_by<'a>(command: Command<'a>) -> Option<&'a str>
         Command::Export { index: _, ciff } => Some(ciff),
         Command::Migrate { from: _, to } => Some(to),
         Command::Search { run, .. } => Some(run),
+        Command::Shards(shards) => Some(shards.run),
         Command::Exhaust { run, .. } => Some(run),
         _ => None,
     }
@@ -108,6 +110,14 @@ fn do_command<'a, C: Cabinet, I: Feed, O: Sink, L: Ledger>(
             run,
             budgets.as_slice(),
             asked,
+            files,
+            out,
+            steps,
+        ),
+        Command::Shards(shards) => run_shards(
+            alloc,
+            shards,
+            shards.budgets.as_slice(),
             files,
             out,
             steps,

@@ -36,6 +36,8 @@ mod search_stop;
 mod serve;
 mod serve_lines;
 mod serve_stop;
+mod shards;
+mod shards_input;
 mod status;
 mod stop;
 mod trial;

@@ -23,7 +23,7 @@ use std::alloc::Global;
 
 /// How many bytes of a file are read at the most: one more than a query file may have, since a
 /// longer file is refused whatever else stands in it.
-const MOST_BYTES: usize = LONGEST_QUERY_FILE + 1;
+pub const MOST_BYTES: usize = LONGEST_QUERY_FILE + 1;
 
 /// Reads the queries of a file over the terms of an index.
 pub fn open_queries<'a, S: NamedSource, C: Cabinet>(
@@ -58,7 +58,7 @@ pub fn open_queries<'a, S: NamedSource, C: Cabinet>(
 }
 
 /// The queries of a content over the terms of an index. The content is that of the file of this name.
-fn queries_in<'a, S: NamedSource>(
+pub fn queries_in<'a, S: NamedSource>(
     alloc: Global,
     bytes: &[u8],
     name: &'a str,

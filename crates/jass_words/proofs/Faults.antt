@@ -23,7 +23,7 @@ dropped [] place word is = cc
 dropped (w ∷ words) zero word is = let same : w ≡ word = cc in ap (λ (x : List ℕ). x ∷ words) same
 dropped (w ∷ words) (suc place) word is = dropped words place word is
 
-got : (words : List (List ℕ)) (place : ℕ) (word : List ℕ) (rest : List (List ℕ)) → drop place words ≡ word ∷ rest → slice_get words place ≡ Some word
+pub got : (words : List (List ℕ)) (place : ℕ) (word : List ℕ) (rest : List (List ℕ)) → drop place words ≡ word ∷ rest → slice_get words place ≡ Some word
 got [] zero word rest is = cc
 got [] (suc place) word rest is = cc
 got (w ∷ words) zero word rest is = let same : w ≡ word = cc in ap Some same

@@ -1,5 +1,5 @@
 -- Words of a form say one thing, and each form has words.
-use Rattle.shared_lemmas.proofs.Common.{◌≡◌, ◌≢◌, ℕ, ◌+◌, suc, ◌≤◌, Bool, true, false, List, [], ◌∷◌, ◌++◌, length, get_or, refl, sym, ap, subst, ◌∙◌, arith, eqb, eqb-true, codes, if◌then◌else◌, nat_tests, same_Some, slice_get, AllByRecursion, All-from_recursion, list_all, leb, leb-true, ◌&&◌, and_parts, get_or-append_seam, append_assoc}
+use Rattle.shared_lemmas.proofs.Common.{◌≡◌, ◌≢◌, ℕ, ◌+◌, suc, ◌≤◌, replicate, Bool, true, false, List, [], ◌∷◌, ◌++◌, length, get_or, refl, sym, ap, subst, ◌∙◌, arith, eqb, eqb-true, codes, if◌then◌else◌, nat_tests, same_Some, slice_get, AllByRecursion, All-from_recursion, list_all, leb, leb-true, ◌&&◌, and_parts, get_or-append_seam, append_assoc}
 use Rattle.std.proofs.Common.{length-append}
 use Rattle.jass_words.proofs.Below.{Plain, Tf, Raw}
 use Rattle.jass_base.specs.declared.answer.Budget.TheVariants as budgets
@@ -8,8 +8,8 @@ use Rattle.jass_words.specs.declared.keys.Key.TheVariants as keys
 use Rattle.jass_words.specs.declared.names.Name.{Name}
 use Rattle.jass_words.specs.declared.names.Name.TheVariants as names
 use Rattle.jass_words.specs.Numbers.{IsNumber}
-use Rattle.jass_words.specs.Options.{Said, IsTag, IsOption}
-use Rattle.jass_words.specs.Slots.{Slot, File, Number, Postings, Value, Values, Says, files_with, Tail, Ends, Terms, May, Must, Extra, IsTail, IsForm, IsFile, IsTerm, AreTermWords}
+use Rattle.jass_words.specs.Options.{Said, OptionData, AreOptions, IsTag, IsOption}
+use Rattle.jass_words.specs.Slots.{Slot, File, Number, Postings, Value, Values, Says, files_with, Tail, Ends, Terms, May, Must, Parts, Extra, IsTail, IsForm, IsFile, IsTerm, AreTermWords, AreFixed, PartsSaid, ArePartWords}
 use Rattle.jass_words.specs.Table.{word_of, slots_of, tail_of}
 use Rattle.jass_words.specs.Words.{CommandData, command_of, IsCommand}
 use Rattle.jass_words.specs.Private.Faults.{IsSomeForm}
@@ -24,6 +24,48 @@ one_value File before word v w is theirs = sym is.0 ∙ theirs.0
 one_value (Number least most) before word v w is theirs = one_number word least most v w is theirs
 one_value Postings before word v w is theirs = one_budget word v w is theirs
 
+heads : (a b : List ℕ) (more others : List (List ℕ)) → a ∷ more ≡ b ∷ others → a ≡ b
+heads a b more others is = same_Some a b (ap (λ (ws : List (List ℕ)). slice_get ws 0) is)
+
+tails : (a b : List ℕ) (more others : List (List ℕ)) → a ∷ more ≡ b ∷ others → more ≡ others
+tails a b more others is = cc
+
+one_fixed : (slots : List Slot) (before words : List (List ℕ)) (v w : Values slots) (rest others : List (List ℕ)) → AreFixed slots before words v rest → AreFixed slots before words w others → (v ≡ w) × (rest ≡ others)
+one_fixed [] before words v w rest others is theirs = (refl, sym is ∙ theirs)
+one_fixed (slot ∷ slots) before [] v w rest others is theirs = absurd is
+one_fixed (slot ∷ slots) before (word ∷ words) v w rest others is theirs =
+    let first : v.0 ≡ w.0 = one_value slot before word v.0 w.0 is.0 theirs.0 in
+    let (later, same) = one_fixed slots (files_with slot w.0 before) words v.1 w.1 rest others (subst (λ (x : Value slot). AreFixed slots (files_with slot x before) words v.1 rest) first is.1) theirs.1 in
+    ((λ i. (first i, later i)), same)
+
+abbrev parts_with : (n : ℕ) → Values (replicate (suc (suc n)) File) → List OptionData → PartsSaid
+parts_with n files options = record { parts = n; files = files; options = options }
+
+same_parts : (allowed : List Key) (words : List (List ℕ)) (n m : ℕ) → n ≡ m → (v : Values (replicate (suc (suc n)) File)) (w : Values (replicate (suc (suc m)) File)) (o p : List OptionData) (rest others : List (List ℕ)) → AreFixed (replicate (suc (suc n)) File) [] words v rest → AreOptions allowed rest o
+    → AreFixed (replicate (suc (suc m)) File) [] words w others → AreOptions allowed others p → parts_with n v o ≡ parts_with m w p
+same_parts allowed words n m same v = subst (λ (k : ℕ). (w : Values (replicate (suc (suc k)) File)) (o p : List OptionData) (rest others : List (List ℕ)) → AreFixed (replicate (suc (suc n)) File) [] words v rest → AreOptions allowed rest o → AreFixed (replicate (suc (suc k)) File) [] words w others → AreOptions allowed others p → parts_with n v o ≡ parts_with k w p) same alike
+  where
+    alike : (w : Values (replicate (suc (suc n)) File)) (o p : List OptionData) (rest others : List (List ℕ)) → AreFixed (replicate (suc (suc n)) File) [] words v rest → AreOptions allowed rest o → AreFixed (replicate (suc (suc n)) File) [] words w others → AreOptions allowed others p → parts_with n v o ≡ parts_with n w p
+    alike w o p rest others is are theirs other =
+        let (files, behind) = one_fixed (replicate (suc (suc n)) File) [] words v w rest others is theirs in
+        let options : o ≡ p = spell_one IsOption one_option others o p (subst (λ (ws : List (List ℕ)). AreOptions allowed ws o) behind are).spelled other.spelled in
+        (λ i. parts_with n (files i) (options i))
+
+one_parts : (allowed : List Key) (words : List (List ℕ)) (a b : PartsSaid) → ArePartWords allowed words a → ArePartWords allowed words b → a ≡ b
+one_parts allowed words a b is theirs = same_parts allowed theirs.behind a.parts b.parts parts a.files b.files a.options b.options is.rest theirs.rest (subst (λ (ws : List (List ℕ)). AreFixed (replicate (suc (suc a.parts)) File) [] ws a.files is.rest) behind is.files) is.options theirs.files theirs.options
+  where
+    both : is.count ∷ is.behind ≡ theirs.count ∷ theirs.behind
+    both = sym is.first ∙ theirs.first
+
+    count : is.count ≡ theirs.count
+    count = heads is.count theirs.count is.behind theirs.behind both
+
+    behind : is.behind ≡ theirs.behind
+    behind = tails is.count theirs.count is.behind theirs.behind both
+
+    parts : a.parts ≡ b.parts
+    parts = one_number theirs.count 2 16 a.parts b.parts (subst (λ (c : List ℕ). IsNumber c 2 16 a.parts) count is.counted) theirs.counted
+
 one_extra : (tail : Tail) (words : List (List ℕ)) (a b : Extra tail) → IsTail tail words a → IsTail tail words b → a ≡ b
 one_extra Ends words a b is theirs = refl
 one_extra Terms words a b is theirs = sym is.0 ∙ theirs.0
@@ -31,6 +73,7 @@ one_extra (May allowed) words a b is theirs = spell_one IsOption one_option word
 one_extra (Must key) words a b (word, is, says) (other, theirs, says') =
     let same : word ≡ other = same_Some word other (ap (λ (ws : List (List ℕ)). slice_get ws 0) (sym is ∙ theirs)) in
     one_said_in other key a b (subst (λ (w : List ℕ). IsOption w (record { key = key; said = a })) same says) says'
+one_extra (Parts allowed) words a b is theirs = one_parts allowed words a b is theirs
 
 one_form : (slots : List Slot) (tail : Tail) (before words : List (List ℕ)) (v w : Values slots) (a b : Extra tail) → IsForm slots tail before words v a → IsForm slots tail before words w b → (v ≡ w) × (a ≡ b)
 one_form [] tail before words v w a b is theirs = (refl, one_extra tail words a b is theirs)
@@ -39,12 +82,6 @@ one_form (slot ∷ slots) tail before (word ∷ words) v w a b is theirs =
     let first : v.0 ≡ w.0 = one_value slot before word v.0 w.0 is.0 theirs.0 in
     let (rest, extra) = one_form slots tail (files_with slot w.0 before) words v.1 w.1 a b (subst (λ (x : Value slot). IsForm slots tail (files_with slot x before) words v.1 a) first is.1) theirs.1 in
     ((λ i. (first i, rest i)), extra)
-
-heads : (a b : List ℕ) (more others : List (List ℕ)) → a ∷ more ≡ b ∷ others → a ≡ b
-heads a b more others is = same_Some a b (ap (λ (ws : List (List ℕ)). slice_get ws 0) is)
-
-tails : (a b : List ℕ) (more others : List (List ℕ)) → a ∷ more ≡ b ∷ others → more ≡ others
-tails a b more others is = cc
 
 pub one_command : (words : List (List ℕ)) (command other : CommandData) → IsCommand words command → IsCommand words other → command ≡ other
 one_command words command other is theirs = at theirs.name same theirs.values theirs.extra (subst (λ (ws : List (List ℕ)). IsForm (slots_of theirs.name) (tail_of theirs.name) [] ws theirs.values theirs.extra) (sym behind) theirs.form) ∙ sym theirs.made
@@ -141,10 +178,45 @@ an_option keys.Weights = (codes "weights=tf", Tf, record { value = codes "tf"; p
 an_option keys.Width = (codes "bits=raw", Raw, record { value = codes "raw"; parts = refl; says = refl })
 an_option keys.Frames = (codes "frames=1", 1, record { value = codes "1"; parts = refl; says = one_is 1 1048576 (omega arith) (omega arith) })
 
-filled_tail : (tail : Tail) → (words : List (List ℕ)) × (extra : Extra tail) × IsTail tail words extra
+letter_file : (b : ℕ) → b ≢ 0 → IsFile (b ∷ [])
+letter_file b some = record {
+  some = omega arith;
+  fits = omega arith;
+  nonzero = All-from_recursion (λ (c : ℕ). c ≢ 0) (b ∷ []) (some, tt);
+}
+
+other_letter : (a b : ℕ) → a ≢ b → a ∷ [] ≢ b ∷ []
+other_letter a b apart same = apart (ap (λ (w : List ℕ). get_or w 0 0) same)
+
+-- two parts, `a` and `b`, with `c` and `d` behind them
+abbrev two_parts : PartsSaid
+two_parts = parts_with 2 (97 ∷ [], (98 ∷ [], (99 ∷ [], (100 ∷ [], tt)))) []
+
+two_parts_are : (allowed : List Key) → ArePartWords allowed (codes "2" ∷ (97 ∷ []) ∷ (98 ∷ []) ∷ (99 ∷ []) ∷ (100 ∷ []) ∷ []) two_parts
+two_parts_are allowed = record {
+  count = codes "2";
+  behind = (97 ∷ []) ∷ (98 ∷ []) ∷ (99 ∷ []) ∷ (100 ∷ []) ∷ [];
+  rest = [];
+  first = refl;
+  counted = record { decimal = refl; some = omega arith; limit = omega arith };
+  files = (
+    (refl, letter_file 97 (λ is. omega (arith, is)), tt),
+    (
+      (refl, letter_file 98 (λ is. omega (arith, is)), (other_letter 97 98 (λ is. omega (arith, is)), tt)),
+      (
+        (refl, letter_file 99 (λ is. omega (arith, is)), (other_letter 97 99 (λ is. omega (arith, is)), (other_letter 98 99 (λ is. omega (arith, is)), tt))),
+        ((refl, letter_file 100 (λ is. omega (arith, is)), (other_letter 97 100 (λ is. omega (arith, is)), (other_letter 98 100 (λ is. omega (arith, is)), (other_letter 99 100 (λ is. omega (arith, is)), tt)))), refl),
+      ),
+    ),
+  );
+  options = record { spelled = tt; allows = tt; once = tt };
+}
+
+pub filled_tail : (tail : Tail) → (words : List (List ℕ)) × (extra : Extra tail) × IsTail tail words extra
 filled_tail Ends = ([], tt, refl)
 filled_tail Terms = (codes "a" ∷ [], codes "a" ∷ [], (refl, one_term))
 filled_tail (May allowed) = ([], [], record { spelled = tt; allows = tt; once = tt })
+filled_tail (Parts allowed) = (codes "2" ∷ (97 ∷ []) ∷ (98 ∷ []) ∷ (99 ∷ []) ∷ (100 ∷ []) ∷ [], two_parts, two_parts_are allowed)
 filled_tail (Must key) = (let (word, said, is) = an_option key in (word ∷ [], said, (word, refl, is)))
 
 -- 1 is one of a slot's numbers

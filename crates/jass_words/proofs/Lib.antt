@@ -11,3 +11,4 @@ pub mod Faults
 pub mod Alone
 pub mod Short
 pub mod Terms
+pub mod Parts

@@ -1,5 +1,5 @@
 -- Words that begin a command are short.
-use Rattle.shared_lemmas.proofs.Common.{◌≡◌, ℕ, suc, ◌≤◌, Bool, true, false, List, [], ◌∷◌, ◌++◌, length, Some, None, sym, ap, subst, eqb, ◌*◌, ◌+◌, ◌∙◌, arith, if◌then◌else◌, ◌&&◌, nat_le, nat_lt, ◌^◌, is_ascii_digit, AllByRecursion, list_all, slice_split, join_with_byte}
+use Rattle.shared_lemmas.proofs.Common.{◌≡◌, ℕ, suc, ◌≤◌, replicate, Bool, true, false, List, [], ◌∷◌, ◌++◌, length, Some, None, sym, ap, subst, eqb, ◌*◌, ◌+◌, ◌∙◌, arith, if◌then◌else◌, ◌&&◌, nat_le, nat_lt, ◌^◌, is_ascii_digit, AllByRecursion, list_all, slice_split, join_with_byte}
 use Rattle.shared_lemmas.proofs.Common.{join_with_byte-slice_split, digits_value, leb-true, recursion_from_All}
 use Rattle.std.proofs.Common.{length-append}
 use Rattle.jass_words.proofs.Below.{is_decimal, decimal_of, Budget, Rule, Tf, Bm25, Bits, Raw, Of, Mode, Plain, Folded}
@@ -10,7 +10,7 @@ use Rattle.jass_words.specs.declared.names.Name.{Name}
 use Rattle.jass_words.specs.declared.names.Name.TheVariants as names
 use Rattle.jass_words.specs.Numbers.{IsBudget}
 use Rattle.jass_words.specs.Options.{Said, OptionData, AreBudgets, IsMode, IsRule, IsBits, IsValue, IsOption, key_text}
-use Rattle.jass_words.specs.Slots.{Slot, File, Number, Postings, Value, Values, Says, files_with, Tail, Ends, Terms, May, Must, Extra, IsTail, IsForm, IsTerm}
+use Rattle.jass_words.specs.Slots.{Slot, File, Number, Postings, Value, Values, Says, files_with, Tail, Ends, Terms, May, Must, Parts, Extra, IsTail, IsForm, IsTerm, AreFixed, PartsSaid, ArePartWords}
 use Rattle.jass_words.specs.Spelled.{Spell}
 use Rattle.jass_words.specs.Table.{word_of, slots_of, tail_of}
 use Rattle.jass_words.specs.Words.{IsBegun}
@@ -87,16 +87,26 @@ short_options [] options are = tt
 short_options (w ∷ words) [] are = absurd are
 short_options (w ∷ words) (o ∷ options) are = (short_option w o are.0, short_options words options are.1)
 
-short_tail : (tail : Tail) (words : List (List ℕ)) (extra : Extra tail) → IsTail tail words extra → AllByRecursion IsTerm words
-short_tail Ends words extra is = subst (AllByRecursion IsTerm) (sym is) tt
-short_tail Terms words terms is = subst (AllByRecursion IsTerm) (sym is.0) (recursion_from_All IsTerm terms is.1.each)
-short_tail (May allowed) words options are = short_options words options are.spelled
-short_tail (Must key) words said (word, is, says) = subst (AllByRecursion IsTerm) (sym is) (short_option word (record { key = key; said = said }) says, tt)
-
 short_slot : (slot : Slot) (before : List (List ℕ)) (word : List ℕ) (value : Value slot) → Says slot before word value → IsTerm word
 short_slot File before word file is = (let size : length word ≤ 4096 = is.1.fits in omega (arith, size))
 short_slot (Number least most) before word n is = omega (arith, few_digits word n is.decimal)
 short_slot Postings before word budget is = omega (arith, few_budget word budget is)
+
+short_fixed : (slots : List Slot) (before words : List (List ℕ)) (values : Values slots) (rest : List (List ℕ)) → AreFixed slots before words values rest → AllByRecursion IsTerm rest → AllByRecursion IsTerm words
+short_fixed [] before words values rest is short = subst (AllByRecursion IsTerm) (sym is) short
+short_fixed (slot ∷ slots) before [] values rest is short = tt
+short_fixed (slot ∷ slots) before (word ∷ words) values rest is short = (short_slot slot before word values.0 is.0, short_fixed slots (files_with slot values.0 before) words values.1 rest is.1 short)
+
+short_parts : (allowed : List Key) (words : List (List ℕ)) (said : PartsSaid) → ArePartWords allowed words said → AllByRecursion IsTerm words
+short_parts allowed words said is = subst (AllByRecursion IsTerm) (sym is.first)
+    (omega (arith, few_digits is.count said.parts is.counted.decimal), short_fixed (replicate (suc (suc said.parts)) File) [] is.behind said.files is.rest is.files (short_options is.rest said.options is.options.spelled))
+
+short_tail : (tail : Tail) (words : List (List ℕ)) (extra : Extra tail) → IsTail tail words extra → AllByRecursion IsTerm words
+short_tail Ends words extra is = subst (AllByRecursion IsTerm) (sym is) tt
+short_tail Terms words terms is = subst (AllByRecursion IsTerm) (sym is.0) (recursion_from_All IsTerm terms is.1.each)
+short_tail (May allowed) words options are = short_options words options are.spelled
+short_tail (Parts allowed) words said is = short_parts allowed words said is
+short_tail (Must key) words said (word, is, says) = subst (AllByRecursion IsTerm) (sym is) (short_option word (record { key = key; said = said }) says, tt)
 
 short_form : (slots : List Slot) (tail : Tail) (before words : List (List ℕ)) (values : Values slots) (extra : Extra tail) → IsForm slots tail before words values extra → AllByRecursion IsTerm words
 short_form [] tail before words values extra is = short_tail tail words extra is

@@ -2,7 +2,7 @@
 use Rattle.jass_words.specs.declared.command.Command.{Command}
 use Rattle.jass_words.specs.declared.command.Command.TheVariants as commands
 use Rattle.jass_words.specs.Grants.{granted}
-use Rattle.jass_words.specs.Words.{CommandData, Once, Rewrite, Import, Check, Export, Migrate, Search, Exhaust, Audit, Serve, Trial, Help, Version, texts}
+use Rattle.jass_words.specs.Words.{CommandData, Once, Rewrite, Import, Check, Export, Migrate, Search, Shards, Exhaust, Audit, Serve, Trial, Help, Version, texts}
 
 abbrev pub command_data : Command → CommandData
 command_data (commands.Once once) = Once once.ciff.now once.k once.budget (texts once.terms.now)
@@ -13,6 +13,8 @@ command_data (commands.Export index ciff) = Export index.now ciff.now
 command_data (commands.Migrate from to) = Migrate from.now to.now
 command_data (commands.Search index queries run budgets asked) =
     Search index.now queries.now run.now asked.k (granted budgets) asked.tag.now asked.mode
+command_data (commands.Shards shards) = Shards (texts shards.indexes.now) shards.queries.now shards.run.now shards.asked.k
+    (granted shards.budgets) shards.asked.tag.now shards.asked.mode
 command_data (commands.Exhaust index queries run asked) =
     Exhaust index.now queries.now run.now asked.k asked.tag.now asked.mode
 command_data (commands.Audit audit) = Audit audit.index.now audit.queries.now audit.run.now audit.reports.now

@@ -1,12 +1,13 @@
 -- What the words behind a command's first one say: fixed words first, each in its slot, and then the command's tail.
 -- This project's grammar.
-use Rattle.std.specs.Prelude.{ℕ, ◌≡◌, ◌≢◌, ◌≤◌, List, [], ◌∷◌, ◌++◌, length, All, ⊤}
+use Rattle.std.specs.Prelude.{ℕ, zero, suc, ◌≡◌, ◌≢◌, ◌≤◌, List, [], ◌∷◌, ◌++◌, length, replicate, All, ⊤}
 use Rattle.std.specs.List.{AllByRecursion}
 use Rattle.jass_base.specs.declared.answer.Budget.{Budget}
 use Rattle.jass_words.specs.Numbers.{IsNumber, IsBudget}
 use Rattle.jass_words.specs.Options.{Said, OptionData, IsOption, AreOptions}
 use Rattle.jass_words.specs.declared.keys.Key.{Key}
 use Rattle.jass_base.specs.declared.limits.TheConstants.{LONGEST_FILE_NAME, LONGEST_TERM, MOST_TERM_WORDS}
+use Rattle.jass_words.specs.declared.word_limits.TheConstants.{LEAST_PARTS, MOST_PARTS}
 
 -- a file's name: 1 to 4,096 bytes, none of them 0
 pub record IsFile (word : List ℕ) : Type 0 where
@@ -53,20 +54,54 @@ abbrev pub Values : List Slot → Type 0
 Values [] = ⊤
 Values (slot ∷ slots) = Value slot × Values slots
 
+-- the words say the values, behind these files, and the others are left
+abbrev pub AreFixed : (slots : List Slot) → List (List ℕ) → List (List ℕ) → Values slots → List (List ℕ) → Type 0
+AreFixed [] before words values rest = words ≡ rest
+AreFixed (slot ∷ slots) before [] values rest = ⊥
+AreFixed (slot ∷ slots) before (word ∷ words) values rest =
+    Says slot before word values.0 × AreFixed slots (files_with slot values.0 before) words values.1 rest
+
 -- ---- the words behind the fixed ones
 
--- none; the terms of a query; options of the keys; or the option of a key alone, which must be there
+-- how many parts a collection has, a file for each of them and two more, and options
+pub record PartsSaid : Type 0 where
+  pub parts : ℕ
+  pub files : Values (replicate (suc (suc parts)) File)
+  pub options : List OptionData
+
+-- the files that some slots of files say
+abbrev pub files_in : (n : ℕ) → Values (replicate n File) → List (List ℕ)
+files_in zero none = []
+files_in (suc n) (file, files) = file ∷ files_in n files
+
+abbrev pub files_said : PartsSaid → List (List ℕ)
+files_said said = files_in (suc (suc said.parts)) said.files
+
+-- the first word says how many parts there are, 2 to 16; behind it stand a file for each and two more, and then options
+pub record ArePartWords (allowed : List Key) (words : List (List ℕ)) (said : PartsSaid) : Type 0 where
+  pub count : List ℕ
+  pub behind : List (List ℕ)
+  pub rest : List (List ℕ)
+  pub first : words ≡ count ∷ behind
+  pub counted : IsNumber count LEAST_PARTS MOST_PARTS said.parts
+  pub files : AreFixed (replicate (suc (suc said.parts)) File) [] behind said.files rest
+  pub options : AreOptions allowed rest said.options
+
+-- none; the terms of a query; options of the keys; the option of a key alone, which must be there; or parts of a
+-- collection with options of the keys
 pub data Tail : Type 0 where
   Ends : Tail
   Terms : Tail
   May : List Key → Tail
   Must : Key → Tail
+  Parts : List Key → Tail
 
 abbrev pub Extra : Tail → Type 0
 Extra Ends = ⊤
 Extra Terms = List (List ℕ)
 Extra (May allowed) = List OptionData
 Extra (Must key) = Said key
+Extra (Parts allowed) = PartsSaid
 
 abbrev pub IsTail : (tail : Tail) → List (List ℕ) → Extra tail → Type 0
 IsTail Ends words extra = words ≡ []
@@ -74,6 +109,7 @@ IsTail Terms words terms = (words ≡ terms) × AreTermWords terms
 IsTail (May allowed) words options = AreOptions allowed words options
 IsTail (Must key) words said =
     (word : List ℕ) × (words ≡ word ∷ []) × IsOption word (record { key = key; said = said })
+IsTail (Parts allowed) words said = ArePartWords allowed words said
 
 -- ---- both
 

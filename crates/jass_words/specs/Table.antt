@@ -1,6 +1,6 @@
 -- The commands: the first word of each, what stands behind it, and what it does. This project's grammar.
 use Rattle.std.specs.Prelude.{ℕ, List, [], ◌∷◌, codes}
-use Rattle.jass_words.specs.Slots.{Slot, File, Number, Postings, Tail, Ends, Terms, May, Must}
+use Rattle.jass_words.specs.Slots.{Slot, File, Number, Postings, Tail, Ends, Terms, May, Must, Parts}
 use Rattle.jass_words.specs.declared.keys.Key.TheVariants as keys
 use Rattle.jass_words.specs.declared.names.Name.{Name}
 use Rattle.jass_words.specs.declared.names.Name.TheVariants as names
@@ -10,7 +10,7 @@ use Rattle.jass_words.specs.declared.word_limits.TheConstants.{MOST_QUERIES, MOS
 -- in the order of the help text
 abbrev pub all_names : List Name
 all_names = names.Once ∷ names.Rewrite ∷ names.Import ∷ names.Check ∷ names.Export ∷ names.Migrate ∷ names.Search
-    ∷ names.Exhaust ∷ names.Audit ∷ names.Serve ∷ names.Trial ∷ names.Help ∷ names.Version ∷ []
+    ∷ names.Shards ∷ names.Exhaust ∷ names.Audit ∷ names.Serve ∷ names.Trial ∷ names.Help ∷ names.Version ∷ []
 
 -- the first word
 abbrev pub word_of : Name → List ℕ
@@ -21,6 +21,7 @@ word_of names.Check = codes "check"
 word_of names.Export = codes "export"
 word_of names.Migrate = codes "migrate"
 word_of names.Search = codes "search"
+word_of names.Shards = codes "shards"
 word_of names.Exhaust = codes "exhaust"
 word_of names.Audit = codes "audit"
 word_of names.Serve = codes "serve"
@@ -37,6 +38,8 @@ form_of names.Check = codes "INDEX"
 form_of names.Export = codes "INDEX CIFF*"
 form_of names.Migrate = codes "OLD NEW*"
 form_of names.Search = codes "INDEX QUERIES RUN* [k=K] [budget=B,..] [tag=TAG] [mode=plain|folded]"
+form_of names.Shards =
+    codes "N INDEX1 .. INDEXN QUERIES RUN* [k=K] [budget=B,..] [tag=TAG] [mode=plain|folded]"
 form_of names.Exhaust = codes "INDEX QUERIES RUN* [k=K] [tag=TAG] [mode=plain|folded]"
 form_of names.Audit = codes "INDEX QUERIES RUN REPORTS [k=K] [budget=B,..] [tag=TAG] [mode=plain|folded]"
 form_of names.Serve = codes "INDEX frames=N"
@@ -53,6 +56,7 @@ does_of names.Check = codes "check an index file, and print its totals"
 does_of names.Export = codes "write a CIFF file with the impacts as frequencies"
 does_of names.Migrate = codes "write an index file of version 1 in version 2"
 does_of names.Search = codes "answer the queries of a file"
+does_of names.Shards = codes "answer them over the parts of a collection as over one index"
 does_of names.Exhaust = codes "answer them by all postings, one document after the other"
 does_of names.Audit = codes "say whether a run and its reports are those of the search"
 does_of names.Serve = codes "answer the lines of the input at a desk over an index file"
@@ -69,6 +73,7 @@ slots_of names.Check = File ∷ []
 slots_of names.Export = File ∷ File ∷ []
 slots_of names.Migrate = File ∷ File ∷ []
 slots_of names.Search = File ∷ File ∷ File ∷ []
+slots_of names.Shards = []
 slots_of names.Exhaust = File ∷ File ∷ File ∷ []
 slots_of names.Audit = File ∷ File ∷ File ∷ File ∷ []
 slots_of names.Serve = File ∷ []
@@ -85,6 +90,7 @@ tail_of names.Check = Ends
 tail_of names.Export = Ends
 tail_of names.Migrate = Ends
 tail_of names.Search = May (keys.Hits ∷ keys.Limits ∷ keys.Tag ∷ keys.Reading ∷ [])
+tail_of names.Shards = Parts (keys.Hits ∷ keys.Limits ∷ keys.Tag ∷ keys.Reading ∷ [])
 tail_of names.Exhaust = May (keys.Hits ∷ keys.Tag ∷ keys.Reading ∷ [])
 tail_of names.Audit = May (keys.Hits ∷ keys.Limits ∷ keys.Tag ∷ keys.Reading ∷ [])
 tail_of names.Serve = Must keys.Frames

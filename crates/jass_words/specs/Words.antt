@@ -1,5 +1,6 @@
 -- The words of the command line: what a command is, and the first word that is none of a command's. This project's grammar.
-use Rattle.std.specs.Prelude.{ℕ, ◌≡◌, ◌<◌, ◌≤◌, ◌+◌, List, [], ◌∷◌, ◌++◌, length, take, map, codes, String}
+use Rattle.std.specs.Prelude.{ℕ, suc, ◌≡◌, ◌<◌, ◌≤◌, ◌+◌, List, [], ◌∷◌, ◌++◌, length, take, map, codes, String}
+use Rattle.std.specs.List.{slice_index_or}
 use Rattle.std.specs.String.{string_bytes}
 use Rattle.std.specs.declared.alloc.Global.{Global}
 use Rattle.std.specs.Option.{unwrap_or}
@@ -12,7 +13,7 @@ use Rattle.weights.specs.declared.quantizing.Bits.TheVariants.{Raw}
 use Rattle.query_reader.specs.declared.mode.Mode.{Mode}
 use Rattle.query_reader.specs.declared.mode.Mode.TheVariants.{Plain}
 use Rattle.jass_words.specs.Options.{given}
-use Rattle.jass_words.specs.Slots.{Values, Extra, IsForm}
+use Rattle.jass_words.specs.Slots.{Values, Extra, IsForm, PartsSaid, files_said}
 use Rattle.jass_words.specs.Table.{word_of, slots_of, tail_of}
 use Rattle.jass_words.specs.declared.keys.Key.TheVariants as keys
 use Rattle.jass_words.specs.declared.names.Name.{Name}
@@ -33,6 +34,7 @@ pub data CommandData : Type 0 where
   Export : List ℕ → List ℕ → CommandData
   Migrate : List ℕ → List ℕ → CommandData
   Search : List ℕ → List ℕ → List ℕ → ℕ → List Budget → List ℕ → Mode → CommandData
+  Shards : List (List ℕ) → List ℕ → List ℕ → ℕ → List Budget → List ℕ → Mode → CommandData
   Exhaust : List ℕ → List ℕ → List ℕ → ℕ → List ℕ → Mode → CommandData
   Audit : List ℕ → List ℕ → List ℕ → List ℕ → ℕ → List Budget → List ℕ → Mode → CommandData
   Serve : List ℕ → ℕ → CommandData
@@ -40,9 +42,13 @@ pub data CommandData : Type 0 where
   Help : CommandData
   Version : CommandData
 
+-- the file that stands behind so many others
+abbrev pub file_behind : ℕ → PartsSaid → List ℕ
+file_behind n said = slice_index_or (files_said said) n []
+
 -- the command that its words' values make. An import without an option weighs by tf, and weights stay raw; a search
--- without one asks for 1,000 hits, all postings may be scored, the tag is `jass`, and queries are read plain; an exhaustive
--- search is the same but for budgets, and an audit takes the search to have been so
+-- without one asks for 1,000 hits, all postings may be scored, the tag is `jass`, and queries are read plain; a search over
+-- parts is the same, an exhaustive one but for budgets, and an audit takes the search to have been so
 abbrev pub command_of : (name : Name) → Values (slots_of name) → Extra (tail_of name) → CommandData
 command_of names.Once (ciff, (k, (budget, none))) terms = Once ciff k budget terms
 command_of names.Rewrite (from, (to, none)) extra = Rewrite from to
@@ -54,6 +60,10 @@ command_of names.Migrate (from, (to, none)) extra = Migrate from to
 command_of names.Search (index, (queries, (run, none))) options = Search index queries run
     (unwrap_or (given keys.Hits options) 1000) (unwrap_or (given keys.Limits options) (budgets.All ∷ []))
     (unwrap_or (given keys.Tag options) (codes "jass")) (unwrap_or (given keys.Reading options) Plain)
+command_of names.Shards none said = Shards (take said.parts (files_said said))
+    (file_behind said.parts said) (file_behind (suc said.parts) said)
+    (unwrap_or (given keys.Hits said.options) 1000) (unwrap_or (given keys.Limits said.options) (budgets.All ∷ []))
+    (unwrap_or (given keys.Tag said.options) (codes "jass")) (unwrap_or (given keys.Reading said.options) Plain)
 command_of names.Exhaust (index, (queries, (run, none))) options = Exhaust index queries run
     (unwrap_or (given keys.Hits options) 1000) (unwrap_or (given keys.Tag options) (codes "jass"))
     (unwrap_or (given keys.Reading options) Plain)

@@ -4,6 +4,7 @@ ghost use Rattle.weights.specs.Quantizing.{IsImpactWidth};
 ghost use Rattle.jass_words.specs.Options.{IsTag};
 ghost use Rattle.jass_words.specs.Widths.{IsImpactWidth-prop};
 ghost use Rattle.jass_words.specs.Words.{IsTrialSize};
+ghost use Rattle.jass_words.specs.declared.word_limits.TheConstants.{LEAST_PARTS, MOST_PARTS};
 
 use crate::grants::Grants;
 use jass_base::Budget;
@@ -46,6 +47,9 @@ pub enum Command<'a> {
         budgets: Grants,
         asked: Asked<'a>,
     },
+    /// Answers the queries of a file over the index files of a collection's parts, as over one, once
+    /// for each budget, and writes a run file.
+    Shards(Shards<'a>),
     /// Answers the queries of a file over an index file by all postings, document at a time, and
     /// writes a run file.
     Exhaust {
@@ -104,6 +108,19 @@ pub struct Asked<'a> {
     pub mode: Mode,
     pub ghost hits: { (1 ≤ k) × (k ≤ MOST_HITS) },
     pub ghost tagged: { IsTag tag.now },
+}
+
+/// `shards N INDEX1 .. INDEXN QUERIES RUN [k=K] [budget=BUDGET,..] [tag=TAG] [mode=MODE]`.
+#[derive(Clone, Copy)]
+pub struct Shards<'a> {
+    /// The index files of the parts: 2 to 16.
+    pub indexes: &'a [String],
+    pub queries: &'a str,
+    pub run: &'a str,
+    /// 1 to 16; `all` alone where no option says otherwise.
+    pub budgets: Grants,
+    pub asked: Asked<'a>,
+    pub ghost parts: { (LEAST_PARTS ≤ length indexes.now) × (length indexes.now ≤ MOST_PARTS) },
 }
 
 /// `audit INDEX QUERIES RUN REPORTS [k=K] [budget=BUDGET,..] [tag=TAG] [mode=MODE]`.

@@ -18,7 +18,7 @@ mod term_words;
 mod word_fault;
 pub mod word_limits;
 
-pub use command::{Asked, Audit, Command, Import, Once, Serve, Trial};
+pub use command::{Asked, Audit, Command, Import, Once, Serve, Shards, Trial};
 pub use grants::Grants;
 pub use keys::Key;
 pub use names::{NAMES, Name, Row};

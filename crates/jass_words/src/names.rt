@@ -12,6 +12,7 @@ pub enum Name {
     Export,
     Migrate,
     Search,
+    Shards,
     Exhaust,
     Audit,
     Serve,
@@ -21,7 +22,7 @@ pub enum Name {
 }
 
 /// The commands, in the order of the help text.
-pub const NAMES: [Name; 13] = [
+pub const NAMES: [Name; 14] = [
     Name::Once,
     Name::Rewrite,
     Name::Import,
@@ -29,6 +30,7 @@ pub const NAMES: [Name; 13] = [
     Name::Export,
     Name::Migrate,
     Name::Search,
+    Name::Shards,
     Name::Exhaust,
     Name::Audit,
     Name::Serve,
@@ -92,6 +94,11 @@ impl Name {
                 word: "search",
                 form: "INDEX QUERIES RUN* [k=K] [budget=B,..] [tag=TAG] [mode=plain|folded]",
                 does: "answer the queries of a file",
+            },
+            Name::Shards => Row {
+                word: "shards",
+                form: "N INDEX1 .. INDEXN QUERIES RUN* [k=K] [budget=B,..] [tag=TAG] [mode=plain|folded]",
+                does: "answer them over the parts of a collection as over one index",
             },
             Name::Exhaust => Row {
                 word: "exhaust",

@@ -6,14 +6,14 @@ ghost use Rattle.jass_words.specs.Words.{texts};
 ghost use Rattle.jass_words.specs.Private.Reading.{ReadsAs};
 
 use crate::budgets::Budgets;
-use crate::command::{Asked, Audit, Command, Import, Once, Serve, Trial};
+use crate::command::{Asked, Audit, Command, Import, Once, Serve, Shards, Trial};
 use crate::files::read_files;
 use crate::keys::Key;
 use crate::options::{read_frames, read_options};
-use crate::slots::{budget_at, file_at, number_at, read_end};
+use crate::slots::{budget_at, file_at, files_from, number_at, read_end};
 use crate::term_words::read_terms;
 use crate::word_fault::WordFault;
-use crate::word_limits::{MOST_QUERIES, MOST_SEED};
+use crate::word_limits::{LEAST_PARTS, MOST_PARTS, MOST_QUERIES, MOST_SEED};
 use jass_base::limits::{MOST_HITS, MOST_TRIAL};
 use query_reader::Mode;
 use weights::{Bits, Rule};
@@ -127,6 +127,33 @@ pub fn read_search<'a>(words: &'a [String]) -> Result<Command<'a>, WordFault>
             },
             budgets: options.limits.unwrap_or(Budgets::all()).grants(),
         }),
+        Err(fault) => Err(fault),
+    }
+}
+
+pub fn read_shards<'a>(words: &'a [String]) -> Result<Command<'a>, WordFault>
+    ensures { ReadsAs Name.Shards (texts words.now) result }
+{
+    let Some(parts) = number_at(words, 1, LEAST_PARTS, MOST_PARTS) else {
+        return Err(WordFault { which: 2 });
+    };
+    let files = match files_from(words, 2, parts + 2) {
+        Ok(files) => files,
+        Err(fault) => return Err(fault),
+    };
+    let allowed = [Key::Hits, Key::Limits, Key::Tag, Key::Reading];
+    match read_options(words, parts + 4, &allowed) {
+        Ok(options) => Ok(Command::Shards(Shards {
+            indexes: &files[..parts as usize],
+            queries: files[parts as usize].as_str(),
+            run: files[parts as usize + 1].as_str(),
+            asked: Asked {
+                k: options.hits.unwrap_or(USUAL_HITS),
+                tag: options.tag.unwrap_or("jass"),
+                mode: options.mode.unwrap_or(Mode::Plain),
+            },
+            budgets: options.limits.unwrap_or(Budgets::all()).grants(),
+        })),
         Err(fault) => Err(fault),
     }
 }

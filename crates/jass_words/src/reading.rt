@@ -9,7 +9,7 @@ use crate::command::Command;
 use crate::names::Name;
 use crate::readers::{
     read_audit, read_check, read_exhaust, read_export, read_help, read_import, read_migrate,
-    read_once, read_rewrite, read_search, read_serve, read_trial, read_version,
+    read_once, read_rewrite, read_search, read_serve, read_shards, read_trial, read_version,
 };
 use crate::word_fault::WordFault;
 
@@ -47,6 +47,7 @@ fn read_behind<'a>(name: Name, words: &'a [String]) -> Result<Command<'a>, WordF
         Name::Export => read_export(words),
         Name::Migrate => read_migrate(words),
         Name::Search => read_search(words),
+        Name::Shards => read_shards(words),
         Name::Exhaust => read_exhaust(words),
         Name::Audit => read_audit(words),
         Name::Serve => read_serve(words),

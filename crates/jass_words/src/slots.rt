@@ -1,11 +1,11 @@
-ghost use Rattle.std.specs.Prelude.{ℕ, ◌≡◌, ◌≢◌, ◌<◌, ◌≤◌, ◌↔◌, [], List, IfErr, IfOk, IfSome, IsTrue, None, drop, length, map};
+ghost use Rattle.std.specs.Prelude.{ℕ, ◌≡◌, ◌≢◌, ◌<◌, ◌≤◌, ◌+◌, ◌↔◌, [], List, IfErr, IfOk, IfSome, IsTrue, None, drop, false, length, map, replicate, take};
 ghost use Rattle.std.specs.List.{AllByRecursion};
 ghost use Rattle.std.specs.Option.{option_map};
 ghost use Rattle.jass_base.specs.declared.answer.Budget.{Budget};
 ghost use Rattle.jass_words.specs.Numbers.{IsNumber, IsBudget};
-ghost use Rattle.jass_words.specs.Slots.{Ends, File, Number, Postings, IsFile};
+ghost use Rattle.jass_words.specs.Slots.{Ends, File, Number, Postings, IsFile, Tail};
 ghost use Rattle.jass_words.specs.Words.{texts};
-ghost use Rattle.jass_words.specs.Private.Faults.{Finds, IsTailFault};
+ghost use Rattle.jass_words.specs.Private.Faults.{Finds, IsFault, IsNextFile, IsTailFault, NoneAt, SaysFiles};
 
 use crate::word_fault::WordFault;
 use jass_base::limits::LONGEST_FILE_NAME;
@@ -29,6 +29,56 @@ pub fn file_at<'a>(words: &'a [String], place: usize, others: &[&str]) -> Option
     } else {
         None
     }
+}
+
+/// The words from a place on, where so many stand there, each of which can name a file and is none
+/// of those before it; else the first that isn't so.
+pub fn files_from(words: &[String], place: u32, count: u32) -> Result<&[String], WordFault>
+    requires near { place ≤ 100 }
+    requires few { count ≤ 100 }
+    requires begun { place ≤ length words.now }
+    ensures files { IfOk result (λ files. length files.now ≡ count) }
+    ensures says { IfOk result (λ files. SaysFiles count [] place (texts words.now) (texts files.now)) }
+    ensures there { IfOk result (λ _. place + count ≤ length words.now) }
+    ensures fault { IfErr result (λ fault. (tail : Tail)
+        → IsFault (replicate count File) tail [] place (texts words.now) fault.which) }
+{
+    for n in 0..count {
+        if !is_next_file(words, place, n) {
+            return Err(WordFault {
+                which: place + n + 1,
+            });
+        }
+    }
+    Ok(&words[place as usize..(place + count) as usize])
+}
+
+/// Whether a word stands so many behind a place, can name a file, and is none of those between.
+fn is_next_file(words: &[String], place: u32, n: u32) -> bool
+    requires near { place ≤ 100 }
+    requires few { n ≤ 100 }
+    requires before { place + n ≤ length words.now }
+    ensures next { IsTrue result → IsNextFile place n (texts words.now) }
+    ensures there { IsTrue result → place + n < length words.now }
+    ensures none { result ≡ false → NoneAt File (take n (drop place (texts words.now))) (place + n) (texts words.now) }
+{
+    let at = (place + n) as usize;
+    let Some(word) = words.get(at) else {
+        return false;
+    };
+    is_file(word.as_str()) && is_new(word.as_str(), &words[place as usize..at])
+}
+
+/// Whether none of the words before is this one.
+fn is_new(word: &str, before: &[String]) -> bool
+    ensures { IsTrue result ↔ AllByRecursion (λ other. other ≢ word.now) (texts before.now) }
+{
+    for other in before {
+        if other.as_str() == word {
+            return false;
+        }
+    }
+    true
 }
 
 fn is_file(word: &str) -> bool

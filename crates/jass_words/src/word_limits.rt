@@ -3,6 +3,12 @@
 /// The most budgets of a search.
 pub const MOST_BUDGETS: usize = 16;
 
+/// The fewest parts of a collection that are searched as one.
+pub const LEAST_PARTS: u32 = 2;
+
+/// The most parts of a collection that are searched as one.
+pub const MOST_PARTS: u32 = 16;
+
 /// The most bits of an impact.
 pub const MOST_BITS: u64 = 16;
 

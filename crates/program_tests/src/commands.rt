@@ -10,6 +10,7 @@ mod rewriting;
 mod search_ends;
 mod searching;
 mod serving;
+mod sharding;
 mod trials;
 
 use jass_base::{Cabinet, Feed, MemCabinet, MemSink, Row, SliceFeed, Steps};
@@ -82,6 +83,8 @@ migrate OLD NEW*\n\
 \x20   write an index file of version 1 in version 2\n\
 search INDEX QUERIES RUN* [k=K] [budget=B,..] [tag=TAG] [mode=plain|folded]\n\
 \x20   answer the queries of a file\n\
+shards N INDEX1 .. INDEXN QUERIES RUN* [k=K] [budget=B,..] [tag=TAG] [mode=plain|folded]\n\
+\x20   answer them over the parts of a collection as over one index\n\
 exhaust INDEX QUERIES RUN* [k=K] [tag=TAG] [mode=plain|folded]\n\
 \x20   answer them by all postings, one document after the other\n\
 audit INDEX QUERIES RUN REPORTS [k=K] [budget=B,..] [tag=TAG] [mode=plain|folded]\n\

@@ -1,6 +1,6 @@
 -- Words that are read, and words at fault, place by place.
-use Rattle.std.specs.Prelude.{ℕ, ◌≡◌, ◌<◌, ◌≤◌, ◌+◌, suc, List, [], ◌∷◌, ◌++◌, length, take, drop, Option, Some, None, IsSomeAnd, slice_get, ◌⊎◌}
-use Rattle.jass_words.specs.Slots.{Slot, Value, Values, Says, files_with, Tail, Extra, IsTail, IsForm}
+use Rattle.std.specs.Prelude.{ℕ, zero, ◌≡◌, ◌<◌, ◌≤◌, ◌+◌, suc, List, [], ◌∷◌, ◌++◌, length, take, drop, Option, Some, None, IsSomeAnd, slice_get, ◌⊎◌}
+use Rattle.jass_words.specs.Slots.{Slot, File, Value, Values, Says, files_with, Tail, Extra, IsTail, IsForm}
 
 -- words that stand before others have it
 abbrev pub Begins : (List (List ℕ) → Type 0) → List (List ℕ) → Type 0
@@ -53,3 +53,16 @@ IsFault (slot ∷ slots) tail before place words which =
     (NoneAt slot before place words × (which ≡ place + 1))
     ⊎ ((value : Value slot) × SaidAt slot before place words value
     × IsFault slots tail (files_with slot value before) (suc place) words which)
+
+-- the word so many behind a place is a file, behind the files between
+pub record IsNextFile (place n : ℕ) (words : List (List ℕ)) : Type 0 where
+  pub file : List ℕ
+  pub said : SaidAt File (take n (drop place words)) (place + n) words file
+  pub longer : take (n + 1) (drop place words) ≡ take n (drop place words) ++ file ∷ []
+
+-- so many files are said from a place on, each in its slot, behind these files
+abbrev pub SaysFiles : ℕ → List (List ℕ) → ℕ → List (List ℕ) → List (List ℕ) → Type 0
+SaysFiles zero before place words files = files ≡ []
+SaysFiles (suc n) before place words [] = ⊥
+SaysFiles (suc n) before place words (file ∷ files) =
+    SaidAt File before place words file × SaysFiles n (before ++ file ∷ []) (suc place) words files

@@ -248,7 +248,7 @@ fn put_drawn(rt: &impl Abort, alloc: Global, queries: &mut Vec<u8>, draws: &mut 
 }
 
 /// Twenty queries of 300 terms, named by letters.
-fn drawn_queries(rt: &impl Abort, alloc: Global, draws: &mut Draws) -> Vec<u8> {
+pub(super) fn drawn_queries(rt: &impl Abort, alloc: Global, draws: &mut Draws) -> Vec<u8> {
     let mut queries = Vec::new(alloc);
     for id in b'a'..b'u' {
         put(rt, &mut queries, &[id]);

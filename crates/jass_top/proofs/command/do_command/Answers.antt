@@ -4,6 +4,8 @@ use Rattle.jass_top.proofs.Below.{Budget, Command, command_data}
 use Rattle.jass_top.specs.Commands.{meaning_of}
 use Rattle.jass_top.specs.Private.Causes.{Runs}
 use Rattle.jass_top.specs.SearchMeaning.{search_meaning, search_within}
+use Rattle.jass_top.specs.ShardsMeaning.{shards_meaning}
+use Rattle.jass_words.specs.Words.{texts}
 use Rattle.jass_top.specs.Worlds.{outer}
 use Rattle.jass_top.proofs.command.do_command.Goals as goal
 
@@ -75,6 +77,16 @@ returns-in-Audit-clause-runs g c =
     let before = outer g.C.Cabinet g.I.Feed g.O.Sink c.args.files.now c.args.input.now c.args.out.now c.args.steps.now in
     let after = outer g.C.Cabinet g.I.Feed g.O.Sink c.run_audit_command.new.files c.args.input.now c.run_audit_command.new.out c.run_audit_command.new.steps in
     subst (λ (command : Command). Runs (meaning_of (command_data command)) before after c.run_audit_command.result) (sym c.in-Audit.is) (c.run_audit_command.ensures.runs before)
+
+pub returns-in-Shards-clause-runs : goal.returns-in-Shards-clause-runs
+returns-in-Shards-clause-runs g c =
+    let before = outer g.C.Cabinet g.I.Feed g.O.Sink c.args.files.now c.args.input.now c.args.out.now c.args.steps.now in
+    let after = outer g.C.Cabinet g.I.Feed g.O.Sink c.run_shards.new.files c.args.input.now c.run_shards.new.out c.run_shards.new.steps in
+    let shards = c.in-Shards.shards in
+    let is : c.as_slice-in-Shards.result.now ≡ granted shards.budgets = c.as_slice-in-Shards.ensures.items in
+    subst (λ (command : Command). Runs (meaning_of (command_data command)) before after c.run_shards.result) (sym c.in-Shards.is)
+    (subst (λ (budgets : List Budget). Runs (shards_meaning (texts shards.indexes.now) shards.queries.now shards.run.now (search_within shards.asked.k budgets shards.asked.tag.now) shards.asked.mode) before after c.run_shards.result)
+    is (c.run_shards.ensures.runs before))
 
 pub returns-in-Exhaust-clause-runs : goal.returns-in-Exhaust-clause-runs
 returns-in-Exhaust-clause-runs g c =
