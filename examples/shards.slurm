@@ -1,9 +1,12 @@
 #!/bin/sh
 #SBATCH --job-name=jass
-#SBATCH --array=1-4
+#SBATCH --array=1-2
 #SBATCH --ntasks=1
-#SBATCH --output=shard.%a.log
-# Searches the shards as a Slurm array job, one task for each: sbatch --wait shards.slurm. The files shard.1.idx to
-# shard.4.idx and queries.txt lie in the folder that it is sent from, and `jass` on the PATH.
-shard=$SLURM_ARRAY_TASK_ID
-exec jass search "shard.$shard.idx" queries.txt "shard.$shard.run" k=1000 > "shard.$shard.reports"
+#SBATCH --output=machine.%a.log
+# Searches the parts of a collection as a Slurm array job: sbatch --wait shards.slurm. Each task searches its parts as one:
+# task 1 shard.1.idx and shard.2.idx, task 2 the next two. They and queries.txt lie in the folder that it is sent from,
+# and `jass` on the PATH.
+parts=2
+task=$SLURM_ARRAY_TASK_ID
+indexes=$(seq -f shard.%g.idx $((task * parts - parts + 1)) $((task * parts)))
+exec jass shards $parts $indexes queries.txt "machine.$task.run" k=1000 > "machine.$task.reports"

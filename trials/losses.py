@@ -31,7 +31,7 @@ DIALOGUE = b"open a 3 a\ngrant a 1\ntop a\nclose a\nend\n"
 
 # The words of each command that writes, on small inputs. The last word that is no option is the file.
 WRITING = ["import b.ciff new", "search b.idx q.txt new k=2 budget=1,all", "rewrite b.ciff new", "export b.idx new",
-           "migrate old.idx new"]
+           "migrate old.idx new", "shards 2 b.idx c.idx q.txt new k=2 budget=1,all"]
 OTHERS = ["once b.ciff 3 2 a", "check b.idx", "serve b.idx frames=20", "trial 7 40 12 3", "--help", "--version",
           "import missing new", "import cut.ciff new", "bad"]
 SILENT = ("rewrite", "export")
@@ -408,11 +408,11 @@ def main(words):
         for name in ("b.ciff", "cut.ciff"):
             with open(os.path.join(data, name), "rb") as file:
                 small[name] = file.read()
-        small["b.idx"] = Folder(program, path, small).whole("import b.ciff new")[3]["new"]
+        small["b.idx"] = small["c.idx"] = Folder(program, path, small).whole("import b.ciff new")[3]["new"]
         small["new"] = OLD
         large = {"b.ciff": ciff(2000, 60, 1), "old.idx": old_index(12_000)}
         large["q.txt"] = b"".join(b"q%d t%d t%d\n" % (place, place % 60, (7 * place + 1) % 60) for place in range(200))
-        large["b.idx"] = Folder(program, path, large).whole("import b.ciff new")[3]["new"]
+        large["b.idx"] = large["c.idx"] = Folder(program, path, large).whole("import b.ciff new")[3]["new"]
         large["new"] = OLD
         folder = Folder(program, path, large)
         for words in WRITING:

@@ -6,9 +6,9 @@ usage: refusals.py PROGRAM
 For each command on a small input, and each kind of call (refuse.c): the first call is refused, then the second, and
 so on until a run has no such call. Of each run it is asked that it ends by itself, with a status that the kind allows;
 with 0 that the output and the files are those of a run without refusal; else that one note stands on standard error,
-that the output is a prefix of that run's, with nothing at 1 and 4 but by `search`, `exhaust` and `serve`, and that files are as at
-entry, but that a part that stood there may be gone. Where a call on a file is refused, one run may leave the new file
-at 5: the one that could not have the folder written to the disk behind the renaming. A run that ends with 1 is made
+that the output is a prefix of that run's, with nothing at 1 and 4 but by `search`, `shards`, `exhaust` and `serve`, and
+that files are as at entry, but that a part that stood there may be gone. Where a call on a file is refused, one run may
+leave the new file at 5: the one that could not have the folder written to the disk behind the renaming. A run that ends with 1 is made
 once more with notes that can't be put, and has to end the same. Needs a C compiler.
 """
 import os
@@ -36,6 +36,7 @@ COMMANDS = [
     ("migrate old.idx new", "new", b""),
     ("search b.idx q.txt new k=2 budget=1,1,all", "new", b""),
     ("search b.idx q.txt new mode=folded", "new", b""),
+    ("shards 2 b.idx c.idx q.txt new k=2 budget=1,1,all", "new", b""),
     ("exhaust b.idx q.txt new k=2", "new", b""),
     ("serve b.idx frames=20", None, DIALOGUE),
     ("trial 7 40 12 3", None, b""),
@@ -91,7 +92,7 @@ def fault_of(kind, words, target, entry, whole, got):
         return f"its notes are {notes!r}"
     if not whole[0].startswith(output):
         return "its output is no prefix"
-    if status in (1, 4) and output and not words.startswith(("search", "exhaust", "serve")):
+    if status in (1, 4) and output and not words.startswith(("search", "shards", "exhaust", "serve")):
         return f"ended with {status} and printed something"
     for name in files.keys() | entry.keys():
         before, after = entry.get(name), files.get(name)
@@ -161,6 +162,7 @@ def main(words):
         os.mkdir(folder)
         shutil.copy(os.path.join(HERE, "..", "crates", "jass", "data", "b.ciff"), folder)
         subprocess.run([program, "import", "b.ciff", "b.idx"], cwd=folder, check=True, stdout=subprocess.DEVNULL)
+        shutil.copy(os.path.join(folder, "b.idx"), os.path.join(folder, "c.idx"))
         for name, content in (("old.idx", version_1()), ("q.txt", QUERIES)):
             with open(os.path.join(folder, name), "wb") as file:
                 file.write(content)
