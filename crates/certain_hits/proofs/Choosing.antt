@@ -1,5 +1,5 @@
 -- The first of hits that come one after the other.
-use Rattle.shared_lemmas.proofs.Common.{◌≡◌, ℕ, zero, suc, ◌+◌, ◌<◌, ◌≤◌, ◌==◌, List, [], ◌∷◌, ◌++◌, length, take, get_or, sum_by, Bool, true, false, true≢false, if◌then◌else◌, refl, sym, ap, subst, ◌∙◌, arith, inl, inr, ◌⊎◌, Some, None, slice_get, IsPermutation}
+use Rattle.shared_lemmas.proofs.Common.{◌≡◌, ℕ, zero, suc, ◌+◌, ◌<◌, ◌≤◌, ◌==◌, List, [], ◌∷◌, ◌++◌, length, map, take, get_or, sum_by, Bool, true, false, true≢false, if◌then◌else◌, refl, sym, ap, subst, ◌∙◌, arith, inl, inr, ◌⊎◌, Some, None, slice_get, IsPermutation}
 use Rattle.shared_lemmas.proofs.Common.{AllByRecursion, is_gt, is_lt, cases_Bool, cases_eq, nat_tests, eq-eqb, length-take, length-append, take-take, take-append_seam, sum_by-append, sum_by-cons, slice_get_past, append_assoc}
 use Rattle.std.proofs.lemmas.List.{append-nil}
 use Rattle.shared_lemmas.proofs.Lists.{all_append, all_take, all_weaker}
@@ -10,6 +10,8 @@ use Rattle.ranking_model.proofs.Sorting.{sorted_ascends, sum_by-sorted, all_plac
 use Rattle.ranking_model.proofs.Orders.{rank_total, rank_same}
 use Rattle.ranking_model.proofs.Candidates.{first_part, hits_each}
 use Rattle.final_certificate.proofs.Lists.{one_order}
+use Rattle.certain_hits.specs.declared.foremost.Reach.{Reach}
+use Rattle.certain_hits.specs.Private.Reach.{hit_of}
 use Rattle.certain_hits.specs.Private.Foremost.{foremost, AreFull, Holds, HasFirst}
 
 -- ---- one hit more
@@ -193,17 +195,17 @@ module _ (m floor : ℕ) (kept : List Hit) (h : Hit) (scores : List ℕ) (inside
 turned : (a b : Hit) → is_lt (rank_cmp b a) ≡ false → is_gt (rank_cmp a b) ≡ false
 turned a b behind = grind (arith, nat_tests)
 
-pub in_front : (front : List Hit) (last : Hit) → ((k : ℕ) (d : Hit) → k < length front → is_lt (rank_cmp last (get_or front k d)) ≡ false) → AreAhead front (last ∷ [])
+pub in_front : (front : List Reach) (last : Reach) → ((k : ℕ) (d : Reach) → k < length front → is_lt (rank_cmp (hit_of last) (hit_of (get_or front k d))) ≡ false) → AreAhead (map hit_of front) (hit_of last ∷ [])
 in_front [] last split = tt
-in_front (x ∷ xs) last split = ((turned x last (split 0 x (omega arith)), tt), in_front xs last (λ k d inside. split (suc k) d (omega arith)))
+in_front (x ∷ xs) last split = ((turned (hit_of x) (hit_of last) (split 0 x (omega arith)), tt), in_front xs last (λ k d inside. split (suc k) d (omega arith)))
 
-pub in_back : (last : Hit) (back : List Hit) → ((k : ℕ) (d : Hit) → k < length back → is_lt (rank_cmp (get_or back k d) last) ≡ false) → AreAhead (last ∷ []) back
+pub in_back : (last : Reach) (back : List Reach) → ((k : ℕ) (d : Reach) → k < length back → is_lt (rank_cmp (hit_of (get_or back k d)) (hit_of last)) ≡ false) → AreAhead (hit_of last ∷ []) (map hit_of back)
 in_back last back split = (each back split, tt) where
-  each : (ys : List Hit) → ((k : ℕ) (d : Hit) → k < length ys → is_lt (rank_cmp (get_or ys k d) last) ≡ false) → AllByRecursion (λ y. is_gt (rank_cmp last y) ≡ false) ys
+  each : (ys : List Reach) → ((k : ℕ) (d : Reach) → k < length ys → is_lt (rank_cmp (hit_of (get_or ys k d)) (hit_of last)) ≡ false) → AllByRecursion (λ y. is_gt (rank_cmp (hit_of last) y) ≡ false) (map hit_of ys)
   each [] split = tt
-  each (y ∷ ys) split = (turned last y (split 0 y (omega arith)), each ys (λ k d inside. split (suc k) d (omega arith)))
+  each (y ∷ ys) split = (turned (hit_of last) (hit_of y) (split 0 y (omega arith)), each ys (λ k d inside. split (suc k) d (omega arith)))
 
 -- what stands in place of nothing
-pub put_behind : (done : Bool) (was more now : List Hit) → now ≡ (if done then was ++ more else was) → done ≡ true → was ≡ [] → now ≡ more
-put_behind true was more now is e none = is ∙ ap (λ (l : List Hit). l ++ more) none
+pub put_behind : (done : Bool) (was more now : List Reach) → now ≡ (if done then was ++ more else was) → done ≡ true → was ≡ [] → now ≡ more
+put_behind true was more now is e none = is ∙ ap (λ (l : List Reach). l ++ more) none
 put_behind false was more now is e none = absurd (true≢false (sym e))

@@ -1,23 +1,21 @@
 -- What is certain stays certain, from interval to interval and from prefix to prefix; a kept answer is certain.
-use Rattle.shared_lemmas.proofs.Common.{◌≡◌, ℕ, ◌+◌, ◌<◌, ◌≤◌, ◌^◌, List, [], ◌∷◌, length, take, get_or, sum_by, count_by, replicate, Bool, true, false, not, cond, refl, sym, ap, subst, ◌∙◌, arith, inl, inr, ◌⊎◌, Contains, IsPermutation, is_lt}
-use Rattle.shared_lemmas.proofs.Common.{AllByRecursion, range_with_len, cases_Bool, cases_eq, sum_by-cons, IsPermutation-refl, Contains-permutation, length-map-range_with_len, length-replicate, get_or-replicate}
-use Rattle.shared_lemmas.proofs.Lists.{all_map, all_unmap, all_weaker}
+use Rattle.shared_lemmas.proofs.Common.{◌≡◌, ℕ, ◌+◌, ◌≤◌, List, [], ◌∷◌, length, take, get_or, sum_by, count_by, replicate, Bool, true, false, not, cond, refl, sym, ap, subst, ◌∙◌, arith, inl, inr, ◌⊎◌, Contains, IsPermutation, is_lt}
+use Rattle.shared_lemmas.proofs.Common.{AllByRecursion, cases_Bool, cases_eq, sum_by-cons, IsPermutation-refl, Contains-permutation, length-map-range_with_len, length-replicate, get_or-replicate}
 use Rattle.shared_lemmas.proofs.Members.{In, contains_from_in, all_at, all_in}
 use Rattle.jass_base.specs.declared.answer.Hit.{Hit}
 use Rattle.ranking_model.specs.declared.plan.QueryPlan.{QueryPlan}
-use Rattle.ranking_model.specs.Scores.{rank_cmp, first_ranked, bound_after, gain_of, scores_after, top_k}
+use Rattle.ranking_model.specs.Scores.{rank_cmp, first_ranked, gain_of, scores_after, top_k}
 use Rattle.ranking_model.specs.Finality.{raised, first_documents, IsSettledWithin, IsKeptWithin}
-use Rattle.ranking_model.proofs.Rest.{raised_map}
 use Rattle.final_certificate.proofs.Limits.{within_of_bound, bound_of_within, bounds_are_small}
 use Rattle.sharp_bounds.specs.Unseen.{unseen_bound, unseen_bounds}
 use Rattle.sharp_bounds.specs.Rule.{AreLimits}
 use Rattle.sharp_bounds.specs.Sharpness.{IsSharpFinal}
 use Rattle.sharp_bounds.proofs.Between.{UpTo, up_trans, up_raised, between_gains}
-use Rattle.sharp_bounds.proofs.Reaching.{IsOnce, unseen_within}
+use Rattle.sharp_bounds.proofs.Reaching.{IsOnce}
 use Rattle.sharp_bounds.proofs.Settling.{within_at}
 use Rattle.sharp_bounds.proofs.Sharp.{rising, falling, later_within}
 use Rattle.certain_hits.specs.Certain.{IsCertainWithin, IsCertainUpTo, IsCertain}
-use Rattle.certain_hits.specs.Rule.{DoReachesFit, rival, stands_ahead, certain_count, certain_after}
+use Rattle.certain_hits.specs.Rule.{rival, stands_ahead, certain_count, certain_after}
 use Rattle.certain_hits.proofs.Totals.{passing, passing_small, passing_one, passing_none, passing_zero, total_le}
 use Rattle.certain_hits.proofs.Reaching.{still_reached}
 use Rattle.certain_hits.proofs.Counting.{IsHitOf, hits_of, in_docs, reaches, reaching, count_ranked}
@@ -111,7 +109,7 @@ settled_kept scores limits k settled gains are = subst (λ l. IsPermutation (fir
 
 -- ---- prefixes
 
-as_many : (n : ℕ) (plan : QueryPlan) → length (unseen_bounds n plan) ≡ length (scores_after n plan)
+pub as_many : (n : ℕ) (plan : QueryPlan) → length (unseen_bounds n plan) ≡ length (scores_after n plan)
 as_many n plan = length-map-range_with_len (λ doc. unseen_bound n plan doc) 0 plan.docs ∙ sym (length-map-range_with_len (λ doc. sum_by (gain_of doc) (take n plan.segments)) 0 plan.docs)
 
 module _ (plan : QueryPlan) (is : IsOnce plan) (n m k : ℕ) (more : n ≤ m) where
@@ -135,18 +133,3 @@ one_limit scores bound = record {
   within = bounds_are_small bound (length scores);
   untouched = λ doc inside none. get_or-replicate (length scores) doc bound 0 inside;
 }
-
-up_all : (most : ℕ) (xs ys : List ℕ) → UpTo xs ys → AllByRecursion (λ y. y < most) ys → AllByRecursion (λ x. x < most) xs
-up_all most [] ys a h = tt
-up_all most (x ∷ xs) [] a h = absurd a
-up_all most (x ∷ xs) (y ∷ ys) a h = ((let low = a.0 in let high = h.0 in omega arith), up_all most xs ys a.1 h.1)
-
-pub reaches_fit : (n : ℕ) (plan : QueryPlan) → IsOnce plan → bound_after 0 plan < 2 ^ 32 → DoReachesFit (unseen_bounds n plan) (scores_after n plan)
-reaches_fit n plan is small = up_all 4294967296 (raised (scores_after n plan) (unseen_bounds n plan)) (raised (scores_after 0 plan) (unseen_bounds 0 plan)) (falling 0 n plan is (omega arith)) first where
-  each : AllByRecursion (λ doc. unseen_bound 0 plan doc ≤ bound_after 0 plan) (range_with_len 0 plan.docs)
-  each = all_unmap (λ limit. limit ≤ bound_after 0 plan) (λ doc. unseen_bound 0 plan doc) (range_with_len 0 plan.docs) (unseen_within 0 plan)
-
-  first : AllByRecursion (λ reach. reach < 4294967296) (raised (scores_after 0 plan) (unseen_bounds 0 plan))
-  first = subst (AllByRecursion (λ reach. reach < 4294967296)) (sym (raised_map (λ doc. sum_by (gain_of doc) (take 0 plan.segments)) (λ doc. unseen_bound 0 plan doc) (range_with_len 0 plan.docs)))
-      (all_map (λ reach. reach < 4294967296) (λ doc. sum_by (gain_of doc) (take 0 plan.segments) + unseen_bound 0 plan doc) (range_with_len 0 plan.docs)
-      (all_weaker (λ doc. unseen_bound 0 plan doc ≤ bound_after 0 plan) (λ doc. sum_by (gain_of doc) (take 0 plan.segments) + unseen_bound 0 plan doc < 4294967296) (λ doc low. omega (arith, low, small)) (range_with_len 0 plan.docs) each))

@@ -5,3 +5,4 @@ pub mod Counting
 pub mod Deciding
 pub mod Keeping
 pub mod Choosing
+pub mod Covering

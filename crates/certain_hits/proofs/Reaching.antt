@@ -1,5 +1,5 @@
 -- Scores with gains, by places, and the order of two hits where one of them gains.
-use Rattle.shared_lemmas.proofs.Common.{◌≡◌, ◌≢◌, ℕ, zero, suc, ◌+◌, ◌<◌, ◌≤◌, List, [], ◌∷◌, length, get_or, true, false, refl, arith, is_lt, nat_tests, replicate, length-replicate, AllByRecursion, AllZip, All-from_recursion, ◌^◌}
+use Rattle.shared_lemmas.proofs.Common.{◌≡◌, ◌≢◌, ℕ, zero, suc, ◌+◌, ◌≤◌, List, [], ◌∷◌, length, get_or, true, false, refl, arith, is_lt, nat_tests, replicate, length-replicate, AllZip}
 use Rattle.ranking_model.specs.Scores.{rank_cmp}
 use Rattle.ranking_model.specs.Finality.{AreGainsWithin, raised}
 use Rattle.sharp_bounds.specs.Rule.{AreLimits}
@@ -37,9 +37,6 @@ zeros_within limits scores same = record { each = length-replicate (length score
 -- nobody reaches more than the score with what is left
 pub reach_low : (scores limits : List ℕ) (rest doc : ℕ) → AreLimits rest scores limits → get_or (raised scores limits) doc 0 ≤ get_or scores doc 0 + rest
 reach_low scores limits rest doc are = let a = raised_at scores limits are.each doc in let b = limit_small rest limits are.within doc in omega arith
-
-pub reach_fits : (scores limits : List ℕ) (doc : ℕ) → AllByRecursion (λ reach. reach < 2 ^ 32) (raised scores limits) → doc < length scores → get_or (raised scores limits) doc 0 < 4294967296
-reach_fits scores limits doc fit inside = All-from_recursion (λ reach. reach < 4294967296) (raised scores limits) fit doc 0 (let n = length_raised scores limits in omega arith)
 
 -- ---- two hits
 

@@ -1,5 +1,5 @@
--- Which of the first k documents are among them whatever is still gained, and how many. This project's: by all gains of all
--- documents, never by neighbouring hits.
+-- Which of the first k documents stay among them whatever is still gained, and how many. This project's: by all gains of
+-- all documents, never by neighbouring hits.
 use Rattle.std.specs.Prelude.{◌≡◌, ℕ, Bool, true, List, count_by, Contains}
 use Rattle.std.specs.List.{AllByRecursion}
 use Rattle.ranking_model.specs.declared.plan.QueryPlan.{QueryPlan}
@@ -9,7 +9,8 @@ use Rattle.sharp_bounds.specs.Unseen.{unseen_bounds}
 
 -- the document is among the first k with any such gains
 abbrev pub IsCertainBy : (List ℕ → Type 0) → List ℕ → ℕ → ℕ → Type 0
-IsCertainBy AreSuch scores k doc = (gains : List ℕ) → AreSuch gains → Contains (first_documents (raised scores gains) k) doc
+IsCertainBy AreSuch scores k doc =
+    (gains : List ℕ) → AreSuch gains → Contains (first_documents (raised scores gains) k) doc
 
 -- by gains up to a limit for each document
 abbrev pub IsCertainWithin : List ℕ → ℕ → List ℕ → ℕ → Type 0
@@ -28,8 +29,14 @@ pub record IsCountOf {A : Type 0} (IsSuch : A → Type 0) (all : List A) (many :
 
 -- how many of the first k documents are certain
 abbrev pub IsCertainCount : List ℕ → ℕ → List ℕ → ℕ → Type 0
-IsCertainCount scores k limits many = IsCountOf (λ hit. IsCertainWithin scores k limits hit.doc) (first_ranked scores k) many
+IsCertainCount scores k limits many =
+    IsCountOf (λ hit. IsCertainWithin scores k limits hit.doc) (first_ranked scores k) many
 
--- the document is certain after the first n segments: no gains within what each document is unseen in put it out of the first k
+-- the document is certain after the first n segments: no gains within what each document is unseen in put it out of the
+-- first k
 abbrev pub IsCertain : ℕ → QueryPlan → ℕ → ℕ → Type 0
 IsCertain n plan k doc = IsCertainWithin (scores_after n plan) k (unseen_bounds n plan) doc
+
+-- so many documents are certain after the first n segments
+abbrev pub IsCertainCountAfter : ℕ → QueryPlan → ℕ → ℕ → Type 0
+IsCertainCountAfter n plan k many = IsCertainCount (scores_after n plan) k (unseen_bounds n plan) many

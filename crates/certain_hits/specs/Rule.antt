@@ -1,6 +1,5 @@
 -- What tells how many are certain; this project's. That it tells so for all gains is proved: nobody needs to believe it.
-use Rattle.std.specs.Prelude.{ℕ, ◌<◌, ◌^◌, Bool, true, List, Option, Some, None, count_by}
-use Rattle.std.specs.List.{AllByRecursion}
+use Rattle.std.specs.Prelude.{ℕ, Bool, true, List, Option, Some, None, count_by}
 use Rattle.std.specs.Ordering.{is_lt}
 use Rattle.jass_base.specs.declared.answer.Hit.{Hit}
 use Rattle.ranking_model.specs.declared.plan.QueryPlan.{QueryPlan}
@@ -11,10 +10,6 @@ use Rattle.sharp_bounds.specs.Unseen.{unseen_bounds}
 -- what each document may reach: its score with its limit
 abbrev pub reaches : List ℕ → List ℕ → List ℕ
 reaches limits scores = raised scores limits
-
--- each reach fits 32 bits
-abbrev pub DoReachesFit : List ℕ → List ℕ → Type 0
-DoReachesFit limits scores = AllByRecursion (λ reach. reach < 2 ^ 32) (reaches limits scores)
 
 -- the best reach after the first k, if more than k documents can reach anything
 abbrev pub rival : ℕ → List ℕ → List ℕ → Option Hit

@@ -1,4 +1,5 @@
-ghost use Rattle.std.specs.Prelude.{◌≡◌, ◌+◌, ◌<◌, ◌≤◌, ◌^◌, [], count_by, length, slice_index, take, IfOk};
+ghost use Rattle.std.specs.Prelude.{◌≡◌, ◌+◌, ◌<◌, ◌≤◌, ◌^◌, [], count_by, length, map, slice_index, take, IfOk};
+ghost use Rattle.std.specs.Option.{option_map};
 ghost use Rattle.std.specs.Ordering.{is_lt};
 ghost use Rattle.jass_base.specs.declared.limits.TheConstants.{MOST_HITS};
 ghost use Rattle.ranking_model.specs.Scores.{hits_from, rank_cmp};
@@ -6,9 +7,10 @@ ghost use Rattle.session_scores.specs.Scores.{IsSettled, ScoresStand, docs_of, k
 ghost use Rattle.sharp_bounds.specs.Rule.{AreLimits};
 ghost use Rattle.certain_hits.specs.Private.Room.{HasRoom};
 ghost use Rattle.certain_hits.specs.Private.Foremost.{Holds};
-ghost use Rattle.certain_hits.specs.Rule.{DoReachesFit, certain_count, reaches, stands_ahead};
+ghost use Rattle.certain_hits.specs.Private.Reach.{hit_of};
+ghost use Rattle.certain_hits.specs.Rule.{certain_count, reaches, stands_ahead};
 
-use crate::foremost::Foremost;
+use crate::foremost::{Foremost, Reach};
 use crate::limits::Limits;
 use frame_pool::FramePool;
 use jass_base::{Hit, NoMemory};
@@ -37,8 +39,8 @@ impl Model for CertainRoom {
 }
 
 impl CertainRoom {
-    /// Room for the first k documents, at most 100,000, and the one after them: 24 bytes for each. No other call takes
-    /// memory.
+    /// Room for the first k documents, 0 to 100,000, and the one after them: 48 bytes for each and 256 more. It errs only
+    /// where there is no memory. No other call takes memory.
     pub fn new(alloc: Global, k: u32) -> Result<CertainRoom, NoMemory>
         requires { k ≤ MOST_HITS }
         ensures { IfOk result (λ room. room ≡ k) }
@@ -47,8 +49,8 @@ impl CertainRoom {
         Ok(CertainRoom { k, best })
     }
 
-    /// How many of the first k documents are certain, where no document gains more than its limit, and whoever has no
-    /// score has the rest for its limit.
+    /// How many of the first k documents are certain, from 0 to k: no gains put them out, where no document gains more
+    /// than its limit. Whoever has no score has the rest for its limit, and nobody has more. It looks at each document.
     pub fn count<L: Limits>(
         &mut self,
         scores: &Scores,
@@ -62,7 +64,6 @@ impl CertainRoom {
         requires docs { docs_of scores.now ≡ docs }
         requires asked { k_of scores.now ≡ self.old }
         requires limits { AreLimits rest (scores_of scores.now pool.now) (L.limits limits.now) }
-        requires fits { DoReachesFit (L.limits limits.now) (scores_of scores.now pool.now) }
         ensures count { result ≡ certain_count self.old (L.limits limits.now) (scores_of scores.now pool.now) }
         ensures k { self.new ≡ self.old }
     {
@@ -83,12 +84,11 @@ fn offer_all<L: Limits>(
     rest: u32,
 )
     requires room { HasRoom best.old }
-    requires none { Holds best.old.count best.old.floor best.old.kept.items [] }
+    requires none { Holds best.old.count best.old.floor (map hit_of best.old.kept.items) [] }
     requires stand { ScoresStand scores.now pool.now }
     requires docs { docs_of scores.now ≡ docs }
     requires limits { AreLimits rest (scores_of scores.now pool.now) (L.limits limits.now) }
-    requires fits { DoReachesFit (L.limits limits.now) (scores_of scores.now pool.now) }
-    ensures holds { Holds best.new.count best.new.floor best.new.kept.items
+    ensures holds { Holds best.new.count best.new.floor (map hit_of best.new.kept.items)
         (hits_from 0 (reaches (L.limits limits.now) (scores_of scores.now pool.now))) }
     ensures count { best.new.count ≡ best.old.count }
     ensures room { HasRoom best.new }
@@ -109,25 +109,24 @@ fn offer_next<L: Limits>(
     doc: u32,
 )
     requires room { HasRoom best.old }
-    requires holds { Holds best.old.count best.old.floor best.old.kept.items
+    requires holds { Holds best.old.count best.old.floor (map hit_of best.old.kept.items)
         (hits_from 0 (take doc (reaches (L.limits limits.now) (scores_of scores.now pool.now)))) }
     requires stand { ScoresStand scores.now pool.now }
     requires inside { doc < docs_of scores.now }
     requires limits { AreLimits rest (scores_of scores.now pool.now) (L.limits limits.now) }
-    requires fits { DoReachesFit (L.limits limits.now) (scores_of scores.now pool.now) }
-    ensures holds { Holds best.new.count best.new.floor best.new.kept.items
+    ensures holds { Holds best.new.count best.new.floor (map hit_of best.new.kept.items)
         (hits_from 0 (take (doc + 1) (reaches (L.limits limits.now) (scores_of scores.now pool.now)))) }
     ensures count { best.new.count ≡ best.old.count }
     ensures room { HasRoom best.new }
 {
     let score = scores.score(pool, doc);
-    if u64::from(score) + u64::from(rest) <= u64::from(best.floor) {
+    if u64::from(score) + u64::from(rest) <= best.floor {
         return;
     }
     let limit = limit_of(limits, score, rest, doc);
-    best.offer(Hit {
+    best.offer(Reach {
         doc,
-        score: (u64::from(score) + limit) as u32,
+        reach: u64::from(score) + limit,
     });
 }
 
@@ -145,9 +144,9 @@ fn limit_of<L: Limits>(limits: &L, score: u32, rest: u32, doc: u32) -> u64
 }
 
 /// How many of these hits stand ahead of the rival.
-fn count_ahead(hits: &[Hit], rival: Option<Hit>) -> u32
+fn count_ahead(hits: &[Hit], rival: Option<Reach>) -> u32
     requires { length hits.now < 2 ^ 32 }
-    ensures { result ≡ count_by (stands_ahead rival) hits.now }
+    ensures { result ≡ count_by (stands_ahead (option_map hit_of rival)) hits.now }
 {
     match rival {
         Some(rival) => count_before(hits, rival),
@@ -155,10 +154,10 @@ fn count_ahead(hits: &[Hit], rival: Option<Hit>) -> u32
     }
 }
 
-/// How many of these hits rank before another.
-fn count_before(hits: &[Hit], rival: Hit) -> u32
+/// How many of these hits rank before what another document may reach.
+fn count_before(hits: &[Hit], rival: Reach) -> u32
     requires { length hits.now < 2 ^ 32 }
-    ensures { result ≡ count_by (λ hit. is_lt (rank_cmp hit rival)) hits.now }
+    ensures { result ≡ count_by (λ hit. is_lt (rank_cmp hit (hit_of rival))) hits.now }
 {
     let mut count = 0;
     for hit in hits {
@@ -167,9 +166,10 @@ fn count_before(hits: &[Hit], rival: Hit) -> u32
     count
 }
 
-/// Whether the first hit ranks before the second.
-fn ranks_before(first: Hit, second: Hit) -> bool
-    ensures { result ≡ is_lt (rank_cmp first second) }
+/// Whether a hit ranks before what another document may reach.
+fn ranks_before(hit: Hit, rival: Reach) -> bool
+    ensures { result ≡ is_lt (rank_cmp hit (hit_of rival)) }
 {
-    first.score > second.score || first.score == second.score && first.doc < second.doc
+    let score = u64::from(hit.score);
+    score > rival.reach || score == rival.reach && hit.doc < rival.doc
 }

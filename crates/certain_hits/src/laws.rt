@@ -8,7 +8,6 @@ ghost use Rattle.jass_base.specs.declared.query_term.QueryTerm.{QueryTerm};
 ghost use Rattle.ranking_model.specs.declared.entry.Entry.{Entry};
 ghost use Rattle.ranking_model.specs.declared.plan.QueryPlan.{QueryPlan};
 ghost use Rattle.ranking_model.specs.Flat.{IsFlat};
-ghost use Rattle.ranking_model.specs.Limits.{IsSmall};
 ghost use Rattle.ranking_model.specs.Plan.{plan_of};
 ghost use Rattle.ranking_model.specs.Finality.{raised, first_documents, IsKeptWithin};
 ghost use Rattle.ranking_model.specs.Scores.{scores_after, first_ranked, top_k};
@@ -17,8 +16,8 @@ ghost use Rattle.sharp_bounds.specs.Rule.{AreLimits};
 ghost use Rattle.sharp_bounds.specs.Unseen.{unseen_bounds};
 ghost use Rattle.sharp_search.specs.Deciding.{limits_of};
 ghost use Rattle.sharp_bounds.specs.Sharpness.{IsSharpFinal};
-ghost use Rattle.certain_hits.specs.Certain.{IsCertain, IsCertainCount, IsCertainUpTo, IsCertainWithin};
-ghost use Rattle.certain_hits.specs.Rule.{DoReachesFit, certain_after, certain_count};
+ghost use Rattle.certain_hits.specs.Certain.{IsCertain, IsCertainCount, IsCertainCountAfter, IsCertainUpTo, IsCertainWithin};
+ghost use Rattle.certain_hits.specs.Rule.{certain_after, certain_count};
 
 use sharp_bounds::mask_laws::the_clear_bits_tell_what_is_unseen;
 
@@ -28,6 +27,7 @@ pub fn the_rule_counts_the_certain()
         IsCertainWithin scores k limits doc → Contains (first_documents scores k) doc }
     ensures count { (scores limits : List ℕ) (k : ℕ) → length limits ≡ length scores →
         IsCertainCount scores k limits (certain_count k limits scores) }
+    ensures after { (n k : ℕ) (plan : QueryPlan) → IsCertainCountAfter n plan k (certain_after n plan k) }
     ensures one { (scores limits : List ℕ) (k first second : ℕ) →
         IsCertainCount scores k limits first → IsCertainCount scores k limits second → first ≡ second }
 {}
@@ -71,23 +71,22 @@ pub fn a_certain_document_stands()
         certain_after n plan k ≤ certain_after m plan k }
 {}
 
-/// Where limits keep the first k documents, all of them are certain; so are those of a sharply final answer.
+/// Where limits keep the first k documents, all of them are certain; so are those of a sharply final answer. Where k are
+/// certain, limits keep them.
 pub fn a_kept_answer_is_certain()
     ensures kept { (scores limits : List ℕ) (k : ℕ) → length limits ≡ length scores →
         IsKeptWithin scores k limits → certain_count k limits scores ≡ length (first_ranked scores k) }
     ensures sharp { (n k : ℕ) (plan : QueryPlan) →
         IsSharpFinal n plan k → certain_after n plan k ≡ length (top_k n plan k) }
+    ensures keeps { (scores limits : List ℕ) (k : ℕ) → length limits ≡ length scores →
+        certain_count k limits scores ≡ k → IsKeptWithin scores k limits }
 {}
 
-/// What `CertainRoom::count` asks for: masks that are marked at each posting and the next weights tell what each
-/// document is unseen in, and no document of a plan of known terms can reach 2^32.
+/// What a count by masks tells: masks that are marked at each posting, with the next weights, have what each document
+/// is unseen in.
 pub fn masks_tell_what_is_unseen()
-    ensures limits { (n : ℕ) (plan : QueryPlan) (masks weights : List ℕ) →
+    ensures { (n : ℕ) (plan : QueryPlan) (masks weights : List ℕ) →
         AreMarkedTo n plan masks → weights ≡ next_weights n plan → limits_of masks weights ≡ unseen_bounds n plan }
-    ensures fit { (docs n : ℕ) (flat : List (Entry ℕ)) (terms : List QueryTerm) →
-        IsFlat nat_cmp docs flat →
-        let plan = plan_of docs flat terms in
-        IsSmall plan → DoReachesFit (unseen_bounds n plan) (scores_after n plan) }
 {
     the_clear_bits_tell_what_is_unseen();
 }
