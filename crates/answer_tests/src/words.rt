@@ -31,7 +31,7 @@ fn bad_word(rt: &impl Abort, alloc: Global, line: &str) -> u32 {
 }
 
 /// Lines of words, each with the number of its first bad word.
-const LINES: [(&str, u32); 58] = [
+const LINES: [(&str, u32); 66] = [
     ("once b 3 all a", 0),
     ("once b 100000 18446744073709551615 a b", 0),
     ("rewrite a b", 0),
@@ -68,6 +68,17 @@ const LINES: [(&str, u32); 58] = [
     ("search i q r k=100000 tag=a=b mode=folded budget=all,0", 0),
     ("search i q r budget=2,all k=2", 0),
     ("search i q r k=0", 5),
+    ("search i q r until=final k=2", 0),
+    (
+        "search i q r k=2 mode=folded budget=1,all tag=t until=budget",
+        0,
+    ),
+    ("search i q r until=Final", 5),
+    ("search i q r until=", 5),
+    ("search i q r until=final until=final", 6),
+    ("exhaust i q r until=final", 5),
+    ("audit i q r s until=final", 6),
+    ("shards 2 a b q r until=final", 7),
     ("exhaust i q r tag=a k=2 mode=folded", 0),
     ("exhaust i q q", 4),
     ("exhaust i q r k=2 budget=all", 6),

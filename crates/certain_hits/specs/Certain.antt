@@ -1,5 +1,5 @@
--- Which of the first k documents stay among them whatever is still gained, and how many. This project's: by all gains of
--- all documents, never by neighbouring hits.
+-- Which of the first k documents stay among them whatever is still gained, and how many. This project's: by all gains
+-- of all documents, never by neighbouring hits.
 use Rattle.std.specs.Prelude.{◌≡◌, ℕ, Bool, true, List, count_by, Contains}
 use Rattle.std.specs.List.{AllByRecursion}
 use Rattle.ranking_model.specs.declared.plan.QueryPlan.{QueryPlan}

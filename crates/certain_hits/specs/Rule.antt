@@ -1,4 +1,5 @@
--- What tells how many are certain; this project's. That it tells so for all gains is proved: nobody needs to believe it.
+-- What tells how many are certain; this project's. That it tells so for all gains is proved: nobody needs to believe
+-- it.
 use Rattle.std.specs.Prelude.{ℕ, Bool, true, List, Option, Some, None, count_by}
 use Rattle.std.specs.Ordering.{is_lt}
 use Rattle.jass_base.specs.declared.answer.Hit.{Hit}

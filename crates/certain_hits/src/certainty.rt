@@ -39,8 +39,8 @@ impl Model for CertainRoom {
 }
 
 impl CertainRoom {
-    /// Room for the first k documents, 0 to 100,000, and the one after them: 48 bytes for each and 256 more. It errs only
-    /// where there is no memory. No other call takes memory.
+    /// Room for the first k documents, 0 to 100,000, and the one after them: 48 bytes for each and 256 more. It errs
+    /// only where there is no memory. No other call takes memory.
     pub fn new(alloc: Global, k: u32) -> Result<CertainRoom, NoMemory>
         requires { k ≤ MOST_HITS }
         ensures { IfOk result (λ room. room ≡ k) }

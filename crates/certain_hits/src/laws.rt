@@ -16,7 +16,8 @@ ghost use Rattle.sharp_bounds.specs.Rule.{AreLimits};
 ghost use Rattle.sharp_bounds.specs.Unseen.{unseen_bounds};
 ghost use Rattle.sharp_search.specs.Deciding.{limits_of};
 ghost use Rattle.sharp_bounds.specs.Sharpness.{IsSharpFinal};
-ghost use Rattle.certain_hits.specs.Certain.{IsCertain, IsCertainCount, IsCertainCountAfter, IsCertainUpTo, IsCertainWithin};
+ghost use Rattle.certain_hits.specs.Certain.{IsCertain, IsCertainCount, IsCertainCountAfter};
+ghost use Rattle.certain_hits.specs.Certain.{IsCertainUpTo, IsCertainWithin};
 ghost use Rattle.certain_hits.specs.Rule.{certain_after, certain_count};
 
 use sharp_bounds::mask_laws::the_clear_bits_tell_what_is_unseen;
@@ -71,8 +72,8 @@ pub fn a_certain_document_stands()
         certain_after n plan k ≤ certain_after m plan k }
 {}
 
-/// Where limits keep the first k documents, all of them are certain; so are those of a sharply final answer. Where k are
-/// certain, limits keep them.
+/// Where limits keep the first k documents, all of them are certain; so are those of a sharply final answer. Where k
+/// are certain, the limits keep them.
 pub fn a_kept_answer_is_certain()
     ensures kept { (scores limits : List ℕ) (k : ℕ) → length limits ≡ length scores →
         IsKeptWithin scores k limits → certain_count k limits scores ≡ length (first_ranked scores k) }

@@ -33,6 +33,8 @@ pub fn refusal_advice(number: &str) -> &'static str {
         "53" => "the query names a term more than 255 times: smaller factors",
         "54" => "the line has more than 1,048,576 bytes: shorten it",
         "55" => "it has more than 2^28 bytes: split it",
+        "56" =>
+            "the query has more than 64 terms of the index: shorten it, or search without until=final",
         "57" => "the parts have more than 67,108,864 documents together: fewer parts at a time",
         "58" => "the parts have more than 536,870,912 postings together: fewer parts at a time",
         "80" => "the line hasn't the six columns of a TREC run, with Q0 in the second",

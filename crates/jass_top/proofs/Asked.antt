@@ -1,5 +1,5 @@
 -- What is known of the inputs of a search that are accepted.
-use Rattle.shared_lemmas.proofs.Common.{◌≡◌, ◌<◌, ◌≤◌, ℕ, List, [], ◌∷◌, map, Option, Some, sym, ap, subst, ◌∙◌, All, AllByRecursion, get}
+use Rattle.shared_lemmas.proofs.Common.{◌≡◌, ◌<◌, ◌≤◌, ℕ, List, [], ◌∷◌, map, Some, sym, ap, subst, ◌∙◌, All, AllByRecursion, get}
 use Rattle.jass_base.specs.declared.limits.TheConstants.{MOST_TIMES}
 use Rattle.jass_top.proofs.Below.{FileView, Files, IsFileView, Mode, QueryData, QueryTerm, texts_of}
 use Rattle.index_layout.specs.View.{file_bytes}
@@ -8,9 +8,11 @@ use Rattle.ranking_model.specs.Postings.{AreTerms}
 use Rattle.run_audit.specs.Rows.{IsColumn}
 use Rattle.jass_top.specs.IndexJudging.{judge_index}
 use Rattle.jass_top.specs.Judging.{Accepted, Judged, judge_content}
-use Rattle.jass_top.specs.QueryJudging.{LineQuery, judge_queries, plain_query, with_lines, without_lines}
-use Rattle.jass_top.specs.SearchMeaning.{SearchInputs, judge_search}
+use Rattle.jass_words.specs.declared.until.Until.{Until}
+use Rattle.jass_top.specs.QueryJudging.{LineQuery, judge_queries, judge_queries_until, plain_query, with_lines, without_lines}
+use Rattle.jass_top.specs.SearchMeaning.{SearchInputs, judge_search_until}
 use Rattle.jass_top.proofs.Behind.{behind_found}
+use Rattle.jass_top.proofs.ManyTerms.{accepted_within}
 
 all_plain : (P : QueryData → Type 0) (asked : List reader.QueryData) → AllByRecursion (λ query. P (plain_query query)) asked → AllByRecursion P (map plain_query asked)
 all_plain P [] each = tt
@@ -46,12 +48,13 @@ pub record CanBeSearched (inputs : SearchInputs) : Type 0 where
   pub terms : AllByRecursion (λ (query : QueryData). AreAsked query.terms) (without_lines inputs.queries)
 
 module _ (indexes : IndexesAreJudged) (asked_queries : QueriesAreJudged) (columns : HaveColumns) (terms : HaveTerms) where
-  pub can_be_searched : (index queries : List ℕ) (mode : Mode) (files : Files) (inputs : SearchInputs) → ((content : List ℕ) → get files index ≡ Some content → All (λ byte. byte < 256) content)
-      → judge_search index queries mode (Some files) ≡ Accepted inputs → CanBeSearched inputs
-  can_be_searched index queries mode files inputs bytes accepted =
+  pub can_be_searched : (until : Until) (index queries : List ℕ) (mode : Mode) (files : Files) (inputs : SearchInputs) → ((content : List ℕ) → get files index ≡ Some content → All (λ byte. byte < 256) content)
+      → judge_search_until until index queries mode (Some files) ≡ Accepted inputs → CanBeSearched inputs
+  can_be_searched until index queries mode files inputs bytes accepted =
       let (view, indexed, rest) = behind_found (judge_index index (Some files)) _ inputs accepted in
       let (content, there, more) = behind_found (judge_content queries (Some files)) _ inputs rest in
-      let (lined, read, made) = behind_found (judge_queries queries mode (texts_of view.index.terms) content) _ inputs more in
+      let (lined, read_until, made) = behind_found (judge_queries_until until queries mode (texts_of view.index.terms) content) _ inputs more in
+      let read : judge_queries queries mode (texts_of view.index.terms) content ≡ Accepted lined = accepted_within until queries mode (texts_of view.index.terms) content lined read_until in
       let (stored_bytes, stored, is) = indexes index files view indexed in
       let (asked, file, lines, same) = asked_queries queries mode (texts_of view.index.terms) content lined read in
       let whole : record { index = view.index; queries = lined } ≡ inputs = accepted_one (record { index = view.index; queries = lined }) inputs made in

@@ -1,7 +1,7 @@
 -- How a query of words runs over an index that answers it as another one does.
-use Rattle.shared_lemmas.proofs.Common.{◌≡◌, ◌≢◌, ◌≤◌, ◌^◌, ◌++◌, ℕ, List, [], ◌∷◌, length, codes, Option, Result, Ok, Err, true, false, sym, subst, ◌∙◌, inl, inr, ◌⊎◌}
+use Rattle.shared_lemmas.proofs.Common.{◌≡◌, ◌≢◌, ◌≤◌, ◌^◌, ◌++◌, ℕ, List, [], ◌∷◌, length, codes, Result, Ok, Err, true, false, sym, subst, ◌∙◌, inl, inr, ◌⊎◌}
 use Rattle.ranking_model.specs.declared.posting.WeightedPosting.{WeightedPosting}
-use Rattle.jass_top.proofs.Below.{Files, IndexData, index_text, QueryPlan, granted_sum, prefix_within, size_of_first, weighted_postings, numbered_flat, IsPromised, IsReport, Report, report_line, run_lines, top_k}
+use Rattle.jass_top.proofs.Below.{IndexData, index_text, QueryPlan, granted_sum, prefix_within, size_of_first, weighted_postings, numbered_flat, IsPromised, IsReport, Report, report_line, run_lines, top_k}
 use Rattle.asked_lists.specs.Asked.{AnswerAlike, words_named}
 use Rattle.jass_top.specs.Answers.{OnceQuery, once_plan, once_prefix, once_query}
 use Rattle.jass_top.specs.IndexJudging.{fitting}

@@ -1,12 +1,11 @@
 -- What an audit leaves is its output.
-use Rattle.std.proofs.Common.{◌≡◌, ◌≤◌, ◌+◌, ℕ, List, [], refl, sym, ap, subst, ◌∙◌, arith}
+use Rattle.std.proofs.Common.{◌≡◌, ◌≤◌, ◌+◌, ℕ, List, [], refl, sym, subst, arith}
 use Rattle.jass_top.proofs.Below.{IndexData, QueryData, numbered_flat}
 use Rattle.trec_run.specs.declared.run_line.RunLine.{RunLine}
 use Rattle.run_audit.specs.declared.verdict.Verdict.{Verdict}
 use Rattle.run_audit.specs.Audits.{IsAudit, SearchData, queries_postings}
 use Rattle.jass_top.specs.declared.audit.Audited.{Audited}
 use Rattle.jass_top.specs.AuditMeaning.{AuditInputs, IsAuditOutput, audit_postings, counted_output, verdict_line}
-use Rattle.jass_top.specs.Meanings.{Output}
 use Rattle.jass_top.specs.QueryJudging.{without_lines}
 use Rattle.jass_top.specs.Standing.{StepsAlone}
 use Rattle.jass_top.specs.Worlds.{Outer}

@@ -1,25 +1,20 @@
 -- What a search leaves is audited with a yes.
-use Rattle.shared_lemmas.proofs.Common.{◌≡◌, ◌≢◌, ◌<◌, ◌≤◌, ◌^◌, ℕ, List, [], ◌∷◌, length, map, get_or, codes, Option, Some, Ok, refl, sym, ap, subst, ◌∙◌, arith, All, AllByRecursion, AllZip, get, is_utf8-from_IsUtf8, IsUtf8-from_ascii, IsAscii-from_all}
-use Rattle.jass_base.specs.declared.limits.TheConstants.{MOST_TIMES}
+use Rattle.shared_lemmas.proofs.Common.{◌≡◌, ◌≤◌, ◌^◌, ℕ, List, [], ◌∷◌, length, codes, Some, Ok, sym, ap, subst, ◌∙◌, arith, AllZip, get, is_utf8-from_IsUtf8, IsUtf8-from_ascii, IsAscii-from_all}
 use Rattle.jass_words.specs.Options.{IsTag}
-use Rattle.jass_top.proofs.Below.{Entry, FileView, Files, IndexData, IsFileView, IsReport, Mode, QueryData, QueryTerm, Report, numbered_flat, texts_of}
-use Rattle.index_layout.specs.View.{file_bytes}
-use Rattle.query_reader.specs.Queries as reader
+use Rattle.jass_top.proofs.Below.{FileView, Files, IndexData, IsFileView, IsReport, Mode, QueryData, Report, numbered_flat}
 use Rattle.ranking_model.specs.Plan.{plan_of}
-use Rattle.ranking_model.specs.Postings.{AreTerms}
 use Rattle.ranking_model.specs.Search.{AreReports, IsSearchReports, prefixes_granted, search_run}
 use Rattle.trec_run.specs.declared.run_line.RunLine.{RunLine}
 use Rattle.trec_run.specs.Runs.{run_of}
-use Rattle.run_audit.specs.declared.verdict.Verdict.{Verdict}
 use Rattle.run_audit.specs.declared.verdict.Verdict.TheVariants.{Yes}
 use Rattle.run_audit.specs.Audits.{IsAskable, IsAudit, SearchData}
-use Rattle.run_audit.specs.Rows.{IsColumn, IsLastColumn, search_rows}
+use Rattle.run_audit.specs.Rows.{IsLastColumn, search_rows}
 use Rattle.jass_top.specs.AuditMeaning.{AuditInputs, HoldSearch, IsAuditOutput, auditable, judge_audit, judge_audited, judge_run, verdict_line}
-use Rattle.jass_top.specs.IndexJudging.{judge_index}
-use Rattle.jass_top.specs.Judging.{Accepted, Judged, behind, judge_content}
+use Rattle.jass_top.specs.Judging.{Accepted, behind}
 use Rattle.jass_top.specs.Meanings.{Output}
-use Rattle.jass_top.specs.QueryJudging.{LineQuery, judge_queries, plain_query, with_lines, without_lines}
-use Rattle.jass_top.specs.SearchMeaning.{AreSearchReports, IsSearchOutput, IsSearchReport, Search, SearchInputs, judge_search, plan_over_index, search_within}
+use Rattle.jass_top.specs.QueryJudging.{without_lines}
+use Rattle.jass_top.specs.SearchMeaning.{AreSearchReports, IsSearchOutput, IsSearchReport, SearchInputs, plan_over_index, search_within}
+use Rattle.jass_words.specs.declared.until.Until.TheVariants as untils
 use Rattle.jass_top.proofs.Asked.{HaveColumns, HaveTerms, IndexesAreJudged, QueriesAreJudged, accepted_one, can_be_searched}
 use Rattle.jass_top.proofs.Judged.{content_only}
 use Rattle.jass_top.proofs.JudgedAudit as judged
@@ -47,7 +42,7 @@ pub record CanBeAudited (search : SearchData) (inputs : SearchInputs) : Type 0 w
 module _ (indexes : IndexesAreJudged) (asked_queries : QueriesAreJudged) (columns : HaveColumns) (terms : HaveTerms) where
   pub can_be_audited : (index queries run reports : List ℕ) (search : SearchData) (mode : Mode) (files : Files) (held : HoldSearch index queries run reports search mode files) → CanBeAudited search held.inputs
   can_be_audited index queries run reports search mode files held =
-      let can = can_be_searched indexes asked_queries columns terms index queries mode files held.inputs held.bytes held.accepted in
+      let can = can_be_searched indexes asked_queries columns terms untils.Budget index queries mode files held.inputs held.bytes held.accepted in
       record {
         view = can.view;
         file = can.file;

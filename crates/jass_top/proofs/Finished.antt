@@ -1,5 +1,5 @@
 -- The end of writing a file changes nothing that is told. Where it fails, a part of the output stands: all of it.
-use Rattle.shared_lemmas.proofs.Common.{◌≡◌, ◌≤◌, ◌+◌, ℕ, List, length, take, take_all, false, Option, Some, None, Ok, true, refl, sym, subst, ◌∙◌, inr, arith, Appends}
+use Rattle.shared_lemmas.proofs.Common.{◌≡◌, ◌≤◌, ℕ, List, length, take_all, Option, Some, None, Ok, true, refl, sym, subst, ◌∙◌, inr, arith, Appends}
 use Rattle.jass_top.proofs.Below.{Audit, Check, CommandData, Exhaust, Export, Files, Help, Import, Migrate, Once, Rewrite, Search, Serve, Shards, Trial, Version, AppendsPrefix, Rose, Rose-earlier, Sets}
 use Rattle.jass_top.specs.Causes.{WriteFailed}
 use Rattle.jass_top.specs.Commands.{meaning_of}
@@ -101,7 +101,7 @@ whole_stands (Migrate from to) name before after file untouched does = record {
   accepted = does.accepted;
   stands = inr (subst (λ (output : Output). FileThenPart to output before after) does.exact (then_part to before after does.output does.left));
 }
-whole_stands (Search index queries run k limits tag mode) name before after file untouched does = record {
+whole_stands (Search index queries run k limits tag mode until) name before after file untouched does = record {
   inputs = does.inputs;
   accepted = does.accepted;
   stands = record { output = does.output; exact = does.exact; stands = part_of_each run before after does.output does.left };

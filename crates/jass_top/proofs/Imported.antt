@@ -1,6 +1,6 @@
 -- What an import is judged to be, and what stands after it.
-use Rattle.shared_lemmas.proofs.Common.{rules, [], ◌≡◌, ◌≤◌, ◌<◌, ◌^◌, ◌⊎◌, ℕ, List, length, Option, Some, None, Ok, Err, refl, sym, ap, subst, ◌∙◌, inl, inr, arith, IsSomeAnd, get, Appends}
-use Rattle.jass_top.proofs.Below.{CollectionData, Files, OnContent, IsMissing, Rose, Appends-none, CiffRefusal, read_ciff, number_of, Rule, Bits, IndexData, index_text, collection_index, Begins, IsMade}
+use Rattle.shared_lemmas.proofs.Common.{◌≡◌, ◌≤◌, ◌<◌, ◌^◌, ◌⊎◌, ℕ, List, length, Option, Some, None, Ok, Err, refl, sym, ap, ◌∙◌, inl, inr, IsSomeAnd, get}
+use Rattle.jass_top.proofs.Below.{CollectionData, Files, OnContent, IsMissing, Rose, CiffRefusal, read_ciff, number_of, Rule, Bits, IndexData, index_text, collection_index, Begins, IsMade}
 use Rattle.jass_top.specs.declared.stop.Place.TheVariants.{Byte}
 use Rattle.jass_top.specs.IndexJudging.{fitting}
 use Rattle.jass_top.specs.Judging.{Judged, Accepted, Missing, Refuses, Shows, behind, judge_ciff, judged_ciff, judged_content}

@@ -3,7 +3,7 @@ use Rattle.shared_lemmas.proofs.Common.{◌≡◌, ◌≢◌, ◌≤◌, ◌<◌
 use Rattle.std.proofs.Common.{IsSomeAnd, length-drop}
 use Rattle.shared_lemmas.proofs.Common.{cases_lt}
 use Rattle.jass_base.specs.Outside.{AreBytesAt, GivesBytes, OnContent}
-use Rattle.jass_top.proofs.Below.{Files, FileView, Mode, texts_of}
+use Rattle.jass_top.proofs.Below.{Files, Mode, texts_of}
 use Rattle.text_lines.specs.Lines.{LineData, lines_of, numbered_from}
 use Rattle.trec_run.specs.declared.run_line.RunLine.{RunLine}
 use Rattle.trec_run.specs.declared.run_line.RunWhy.{RunWhy}
@@ -20,7 +20,7 @@ use Rattle.jass_top.specs.Judging.{Accepted, Judged, Missing, Refuses, Shows, Un
 use Rattle.jass_top.specs.QueryJudging.{judge_queries, without_lines}
 use Rattle.jass_top.specs.SearchMeaning.{SearchInputs, judge_search}
 use Rattle.jass_top.specs.Private.Audits.{AreAudited}
-use Rattle.jass_top.specs.Private.Causes.{Unheld, Unread}
+use Rattle.jass_top.specs.Private.Causes.{Unread}
 use Rattle.jass_top.specs.Private.Inputs.{AcceptsSuch, HasInput}
 use Rattle.jass_top.specs.Private.SearchRuns.{asked_of}
 use Rattle.jass_top.proofs.Asked.{accepted_one}

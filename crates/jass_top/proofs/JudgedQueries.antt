@@ -1,5 +1,5 @@
 -- What a query file is judged to be, from what reading it gave.
-use Rattle.shared_lemmas.proofs.Common.{◌≡◌, ◌≢◌, ◌≤◌, ◌<◌, ℕ, List, [], ◌∷◌, length, map, take, Bool, true, false, nat_lt, Option, Some, None, Result, Ok, Err, refl, sym, ap, subst, ◌∙◌, inl, inr, arith, nat_tests, take_all}
+use Rattle.shared_lemmas.proofs.Common.{◌≡◌, ◌≢◌, ◌≤◌, ◌<◌, ℕ, List, [], ◌∷◌, length, map, take, Bool, true, false, nat_lt, Option, Some, None, Result, Ok, Err, refl, sym, ap, subst, ◌∙◌, inl, inr, arith, nat_tests, take_all, find}
 use Rattle.std.proofs.Common.{length-take}
 use Rattle.jass_top.proofs.Below.{Query, Files, QueryData, Mode, QueryRefusal}
 use Rattle.text_lines.specs.Lines.{LineData}
@@ -11,11 +11,13 @@ use Rattle.jass_top.specs.declared.stop.Place.TheVariants.{Line}
 use Rattle.jass_top.specs.declared.stop.Stop.{Stop}
 use Rattle.jass_top.specs.IndexJudging.{judge_index}
 use Rattle.jass_top.specs.Judging.{Judged, Accepted, Missing, Refuses, Untold, Shows, behind, judge_content}
-use Rattle.jass_top.specs.QueryJudging.{IsRefusedQuery, LineQuery, in_lines, judge_queries, judged_queries, plain_query, with_lines, without_lines}
+use Rattle.jass_words.specs.declared.until.Until.{Until}
+use Rattle.jass_words.specs.declared.until.Until.TheVariants as untils
+use Rattle.jass_top.specs.QueryJudging.{IsRefusedQuery, LineQuery, has_many, in_lines, judge_few, judge_queries, judge_queries_until, judged_queries, plain_query, refused_at, with_lines, without_lines}
 use Rattle.jass_top.specs.Private.Causes.{Unheld, Unread}
 use Rattle.jass_top.specs.Private.Inputs.{AcceptsSuch, HasInput}
 use Rattle.jass_top.specs.Private.SearchRuns.{asked_of}
-use Rattle.jass_top.proofs.Behind.{shown_then, unheld_then}
+use Rattle.jass_top.proofs.Behind.{shown_then, unheld_first, unheld_then}
 use Rattle.jass_top.proofs.JudgedFiles.{index_told}
 
 -- a front that is too long is refused as the whole file is
@@ -53,7 +55,7 @@ plain_queries (query ∷ queries) = ap (λ (asked : List QueryData). record { id
 -- ---- from what reading a content gave
 
 pub queries_read : HoldQueries → (name bytes : List ℕ) (mode : Mode) (terms : List (List ℕ)) (queries : List Query) → read_query_file bytes mode terms ≡ Ok (map reader.query_data queries)
-    → HasInput (judge_queries name mode terms bytes) (λ lined. without_lines lined ≡ asked_of queries)
+    → HasInput (judge_queries name mode terms bytes) (λ lined. (lined ≡ with_lines bytes (asked_of queries)) × (without_lines lined ≡ asked_of queries))
 unfolding judge_queries
 queries_read law name bytes mode terms queries read =
     let asked : List reader.QueryData = map reader.query_data queries in
@@ -61,7 +63,7 @@ queries_read law name bytes mode terms queries read =
     record {
       input = with_lines bytes (map plain_query asked);
       accepted = inr (ap (judged_queries name bytes) read);
-      holds = same_queries mode terms (reader.query_lines bytes) asked holds.lines ∙ plain_queries queries;
+      holds = (ap (with_lines bytes) (plain_queries queries), same_queries mode terms (reader.query_lines bytes) asked holds.lines ∙ plain_queries queries);
     }
 
 pub refusal_read : (name bytes : List ℕ) (mode : Mode) (terms : List (List ℕ)) (refusal : QueryRefusal) (number : ℕ) → read_query_file bytes mode terms ≡ Err refusal → number ≡ number_of refusal.why
@@ -69,26 +71,59 @@ pub refusal_read : (name bytes : List ℕ) (mode : Mode) (terms : List (List ℕ
 unfolding judge_queries
 refusal_read name bytes mode terms refusal number read numbered = inr (ap (judged_queries name bytes) read ∙ ap (λ (n : ℕ). Refuses name n (Line refusal.line)) (sym numbered))
 
+-- without their lines
+pub as_asked : {judged : Judged (List LineQuery)} {lines : List LineQuery} {queries : List QueryData} → HasInput judged (λ lined. (lined ≡ lines) × (without_lines lined ≡ queries)) → HasInput judged (λ lined. without_lines lined ≡ queries)
+as_asked had = record { input = had.input; accepted = had.accepted; holds = had.holds.1 }
+
+-- ---- where queries are searched so far
+
+front_judged_until : (until : Until) (name : List ℕ) (mode : Mode) (terms : List (List ℕ)) (content : List ℕ) → judge_queries_until until name mode terms (take 268435457 content) ≡ judge_queries_until until name mode terms content
+front_judged_until untils.Budget name mode terms content = front_judged name mode terms content
+front_judged_until untils.Final name mode terms content = ap (λ (j : Judged (List LineQuery)). behind j (judge_few name)) (front_judged name mode terms content)
+
+module _ (name bytes : List ℕ) (mode : Mode) (terms : List (List ℕ)) (queries : List Query) (had : HasInput (judge_queries name mode terms bytes) (λ lined. (lined ≡ with_lines bytes (asked_of queries)) × (without_lines lined ≡ asked_of queries))) where
+  -- none has many terms
+  pub few_had : find has_many (with_lines bytes (asked_of queries)) ≡ None → HasInput (judge_queries_until untils.Final name mode terms bytes) (λ lined. without_lines lined ≡ asked_of queries)
+  few_had none = record {
+    input = had.input;
+    accepted = shown_then (judge_queries name mode terms bytes) had.input (judge_few name) (Accepted had.input) had.accepted
+        (inr (ap (refused_at name had.input) (ap (find has_many) had.holds.0 ∙ none)));
+    holds = had.holds.1;
+  }
+
+  -- the first that has
+  pub many_had : (asked : LineQuery) → find has_many (with_lines bytes (asked_of queries)) ≡ Some asked → Shows (judge_queries_until untils.Final name mode terms bytes) (Refuses name 56 (Line asked.line))
+  many_had asked some = shown_then (judge_queries name mode terms bytes) had.input (judge_few name) (Refuses name 56 (Line asked.line)) had.accepted
+      (inr (ap (refused_at name had.input) (ap (find has_many) had.holds.0 ∙ some)))
+
+-- what wasn't had wasn't had so far either
+pub unheld_until : (until : Until) (name bytes : List ℕ) (mode : Mode) (terms : List (List ℕ)) (stop : Stop) → Unheld (name ∷ []) (judge_queries name mode terms bytes) stop → Unheld (name ∷ []) (judge_queries_until until name mode terms bytes) stop
+unheld_until untils.Budget name bytes mode terms stop why = why
+unheld_until untils.Final name bytes mode terms stop why = unheld_first (name ∷ []) (judge_queries name mode terms bytes) (judge_few name) stop why
+
 -- ---- from what reading the front of a content gave
 
-module _ (told : Option Files) (name bytes : List ℕ) (mode : Mode) (terms : List (List ℕ)) where
-  whole : (content : List ℕ) → bytes ≡ take 268435457 content → judge_queries name mode terms bytes ≡ judge_queries name mode terms content
-  whole content front = ap (judge_queries name mode terms) front ∙ front_judged name mode terms content
+module _ (told : Option Files) (name bytes : List ℕ) (mode : Mode) (until : Until) (terms : List (List ℕ)) where
+  abbrev judge : List ℕ → Judged (List LineQuery)
+  judge content = judge_queries_until until name mode terms content
 
-  pub queries_had : (P : List LineQuery → Type 0) → AcceptsSuch (judge_content name told) (λ content. bytes ≡ take 268435457 content) → HasInput (judge_queries name mode terms bytes) P
-      → HasInput (behind (judge_content name told) (judge_queries name mode terms)) P
-  queries_had P (inl untold) had = record { input = had.input; accepted = inl (ap (λ j. behind j (judge_queries name mode terms)) untold); holds = had.holds }
+  whole : (content : List ℕ) → bytes ≡ take 268435457 content → judge bytes ≡ judge content
+  whole content front = ap judge front ∙ front_judged_until until name mode terms content
+
+  pub queries_had : (P : List LineQuery → Type 0) → AcceptsSuch (judge_content name told) (λ content. bytes ≡ take 268435457 content) → HasInput (judge bytes) P
+      → HasInput (behind (judge_content name told) judge) P
+  queries_had P (inl untold) had = record { input = had.input; accepted = inl (ap (λ j. behind j judge) untold); holds = had.holds }
   queries_had P (inr (content, there, front)) had = record {
     input = had.input;
-    accepted = shown_then (judge_content name told) content (judge_queries name mode terms) (Accepted had.input) (inr there) (subst (λ (j : Judged (List LineQuery)). Shows j (Accepted had.input)) (whole content front) had.accepted);
+    accepted = shown_then (judge_content name told) content judge (Accepted had.input) (inr there) (subst (λ (j : Judged (List LineQuery)). Shows j (Accepted had.input)) (whole content front) had.accepted);
     holds = had.holds;
   }
 
-  pub queries_unheld : (before after : ℕ) (stop : Stop) → AcceptsSuch (judge_content name told) (λ content. bytes ≡ take 268435457 content) → Unheld (name ∷ []) (judge_queries name mode terms bytes) stop
-      → Unread (name ∷ []) (behind (judge_content name told) (judge_queries name mode terms)) before after stop
-  queries_unheld before after stop (inl untold) why = unheld_then (name ∷ []) (judge_content name told) bytes (judge_queries name mode terms) before after stop (inl untold) why
+  pub queries_unheld : (before after : ℕ) (stop : Stop) → AcceptsSuch (judge_content name told) (λ content. bytes ≡ take 268435457 content) → Unheld (name ∷ []) (judge bytes) stop
+      → Unread (name ∷ []) (behind (judge_content name told) judge) before after stop
+  queries_unheld before after stop (inl untold) why = unheld_then (name ∷ []) (judge_content name told) bytes judge before after stop (inl untold) why
   queries_unheld before after stop (inr (content, there, front)) why =
-      unheld_then (name ∷ []) (judge_content name told) content (judge_queries name mode terms) before after stop (inr there) (subst (λ (j : Judged (List LineQuery)). Unheld (name ∷ []) j stop) (whole content front) why)
+      unheld_then (name ∷ []) (judge_content name told) content judge before after stop (inr there) (subst (λ (j : Judged (List LineQuery)). Unheld (name ∷ []) j stop) (whole content front) why)
 
 -- where the index is untold, so is the content
 pub untold_too : (index name : List ℕ) (told : Option Files) → judge_index index told ≡ Untold → judge_content name told ≡ Untold

@@ -1,5 +1,5 @@
 -- What the parts of a collection and the queries over them are judged to be, from what opening them gave.
-use Rattle.shared_lemmas.proofs.Common.{◌≡◌, ◌≢◌, ◌≤◌, ◌<◌, ◌+◌, ℕ, zero, suc, List, [], ◌∷◌, ◌++◌, length, map, take, drop, Bool, true, false, nat_lt, Option, Some, None, refl, sym, ap, subst, ◌∙◌, inl, inr, arith, nat_tests, if◌then◌else◌, get_or, append-nil, string_bytes, Err, Result, String}
+use Rattle.shared_lemmas.proofs.Common.{◌≡◌, ◌≢◌, ◌≤◌, ◌<◌, ◌+◌, ℕ, zero, suc, List, [], ◌∷◌, ◌++◌, length, take, drop, true, false, nat_lt, Option, Some, None, refl, sym, ap, subst, ◌∙◌, inl, inr, arith, nat_tests, get_or, string_bytes, Err, String}
 use Rattle.std.specs.List.{slice_index_or, sum_by}
 use Rattle.std.specs.declared.alloc.Global.{Global}
 use Rattle.std.proofs.lemmas.List.{drop_more, get_or-map, length-map, take-append-drop, take_more}
@@ -18,13 +18,14 @@ use Rattle.jass_top.specs.declared.stop.Stop.TheVariants as stops
 use Rattle.jass_top.specs.Causes.{IsOneOf}
 use Rattle.jass_top.specs.IndexJudging.{judge_held, judge_index}
 use Rattle.jass_top.specs.Judging.{Accepted, Judged, Missing, Refuses, Shows, Untold, behind, judge_content}
-use Rattle.jass_top.specs.QueryJudging.{LineQuery, judge_queries, without_lines}
+use Rattle.jass_top.specs.QueryJudging.{judge_queries, without_lines}
 use Rattle.jass_top.specs.SearchMeaning.{SearchInputs}
 use Rattle.jass_top.specs.ShardsMeaning.{document_count, judge_parts, judge_shards, passing, refused_where, united}
 use Rattle.jass_top.specs.Private.Causes.{Unheld, Unread}
 use Rattle.jass_top.specs.Private.Inputs.{AcceptsSuch, HasInput}
-use Rattle.jass_top.proofs.Behind.{behind_both, shown_then, unread_before, unread_behind, unread_first, unread_then, unheld_then}
+use Rattle.jass_top.proofs.Behind.{behind_both, shown_then, unread_before, unread_behind, unread_first}
 use Rattle.jass_top.proofs.JudgedFiles.{index_told}
+use Rattle.jass_words.specs.declared.until.Until.TheVariants as untils
 use Rattle.jass_top.proofs.JudgedQueries.{queries_had, queries_unheld}
 
 -- ---- the parts
@@ -324,14 +325,14 @@ module _ (names : List (List ℕ)) (queries : List ℕ) (mode : Mode) (told : Op
       unread_behind names (queries ∷ []) (judge_parts names told) parts over_parts before mid after stop (shown_parts parts had) (untold_parts parts) later
       (subst (λ (j : Judged SearchInputs). Unread (queries ∷ []) j mid after stop) (sym (in_one parts union is))
       (unread_first queries [] (behind (judge_content queries told) (judge_queries queries mode (texts_of union.terms))) (λ asked. Accepted (record { index = union; queries = asked })) mid after stop
-      (queries_unheld told queries bytes mode (texts_of union.terms) mid after stop read why)))
+      (queries_unheld told queries bytes mode untils.Budget (texts_of union.terms) mid after stop read why)))
 
   -- all were had
   pub shards_had : (parts : List IndexData) (union : IndexData) (bytes : List ℕ) (asked : List QueryData) → HadParts parts → united names parts ≡ Accepted union → AcceptsSuch (judge_content queries told) (λ content. bytes ≡ take 268435457 content)
       → HasInput (judge_queries queries mode (texts_of union.terms) bytes) (λ lined. without_lines lined ≡ asked)
       → HasInput (judge_shards names queries mode told) (λ inputs. (inputs.index ≡ union) × (without_lines inputs.queries ≡ asked))
   shards_had parts union bytes asked had is read held =
-      let over : HasInput (behind (judge_content queries told) (judge_queries queries mode (texts_of union.terms))) (λ lined. without_lines lined ≡ asked) = queries_had told queries bytes mode (texts_of union.terms) (λ lined. without_lines lined ≡ asked) read held in
+      let over : HasInput (behind (judge_content queries told) (judge_queries queries mode (texts_of union.terms))) (λ lined. without_lines lined ≡ asked) = queries_had told queries bytes mode untils.Budget (texts_of union.terms) (λ lined. without_lines lined ≡ asked) read held in
       let inputs : SearchInputs = record { index = union; queries = over.input } in
       record {
         input = inputs;

@@ -6,6 +6,7 @@ pub mod AuditRuns
 pub mod AuditedSearch
 pub mod Behind
 pub mod EndingCauses
+pub mod Engines
 pub mod Endings
 pub mod Exhausted
 pub mod Exported
@@ -16,6 +17,7 @@ pub mod JudgedFiles
 pub mod JudgedQueries
 pub mod JudgedSearch
 pub mod JudgedShards
+pub mod ManyTerms
 pub mod MadeFiles
 pub mod Making
 pub mod MemoryFiles
@@ -31,6 +33,7 @@ pub mod Shortest
 pub mod Sides
 pub mod Sizes
 pub mod Stopping
+pub mod Stops
 pub mod Tried
 pub mod Trying
 pub mod Turns

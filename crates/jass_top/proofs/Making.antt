@@ -12,7 +12,7 @@ use Rattle.jass_top.specs.Judging.{Judged, Accepted, Missing, Refuses, Shows}
 use Rattle.jass_top.specs.MakingMeaning.{SavesPart, made_output, on_made, judge_made}
 use Rattle.jass_top.specs.Private.HeldIndexes.{on_index}
 use Rattle.jass_top.specs.Meanings.{Meaning, Output}
-use Rattle.jass_top.specs.Standing.{CountsPart, FilePart, FileThenPart, Keeps, LeavesFile, LeavesFront, OfOutput, TextPart}
+use Rattle.jass_top.specs.Standing.{CountsPart, Keeps, LeavesFile, LeavesFront, OfOutput, TextPart}
 use Rattle.jass_top.specs.Worlds.{Outer}
 use Rattle.jass_top.proofs.Behind.{shown_then}
 use Rattle.jass_top.proofs.Stopping.{ran_on_both}

@@ -10,7 +10,11 @@ use Rattle.jass_top.specs.Answers.{OnceQuery, once_plan, once_prefix, once_steps
 use Rattle.jass_top.specs.Commands.{meaning_of}
 use Rattle.jass_top.specs.Meanings.{HasOneOutput, Output}
 use Rattle.jass_top.specs.OnceMeaning.{IsOnceOutput}
-use Rattle.jass_top.specs.SearchMeaning.{AreSearchReports, IsSearchOutput, IsSearchReport, SearchInputs, plan_over_index, scored_postings, search_within}
+use Rattle.sharp_bounds.specs.Sharpness.{IsSharpGrade}
+use Rattle.jass_words.specs.declared.until.Until.{Until}
+use Rattle.jass_words.specs.declared.until.Until.TheVariants as untils
+use Rattle.jass_top.specs.Until.{IsReportUntil}
+use Rattle.jass_top.specs.SearchMeaning.{AreSearchReports, IsReportOf, IsSearchOutput, SearchInputs, plan_over_index, scored_postings, search_until, search_within}
 use Rattle.jass_top.specs.SearchMeaning as asked
 use Rattle.jass_top.specs.QueryJudging.{without_lines}
 use Rattle.jass_top.specs.TrialMeaning.{AreTrialReports, IsTrialOutput, queries_over, trial_budgets, trial_prefix, trial_summary}
@@ -22,7 +26,8 @@ OneVerdict = (names : List (List ℕ)) (flat : List (Entry ℕ)) (queries : List
 
 -- ---- reports are one
 
-module _ (one_grade : (scores : List ℕ) (k bound : ℕ) (first second : Grade) → IsGrade scores k bound first → IsGrade scores k bound second → first ≡ second) (one_verdict : OneVerdict) where
+module _ (one_grade : (scores : List ℕ) (k bound : ℕ) (first second : Grade) → IsGrade scores k bound first → IsGrade scores k bound second → first ≡ second) (one_verdict : OneVerdict)
+    (one_sharp_grade : (n k : ℕ) (plan : QueryPlan) (first second : Grade) → IsSharpGrade n plan k first → IsSharpGrade n plan k second → first ≡ second) where
   same_report : (n : ℕ) (plan : QueryPlan) (k : ℕ) (one other : Report) → IsReport n plan k one → IsReport n plan k other → one ≡ other
   same_report n plan k one other is theirs =
       let grade : one.grade ≡ other.grade = one_grade _ k _ one.grade other.grade is.graded theirs.graded in
@@ -33,26 +38,32 @@ module _ (one_grade : (scores : List ℕ) (k bound : ℕ) (first second : Grade)
       let report : is.report ≡ theirs.report = same_report (once_prefix index query) (once_plan index query) query.k is.report theirs.report is.answer.exact theirs.answer.exact in
       is.whole ∙ ap (λ (r : Report). (let o : Output = record { content = []; text = once_text index query r; steps = once_steps index query } in o)) report ∙ sym theirs.whole
 
-  same_reports_at : (index : IndexData) (query : QueryData) (k : ℕ) (prefixes : List ℕ) (one other : List Report) → AllZip (IsSearchReport index query k) prefixes one → AllZip (IsSearchReport index query k) prefixes other → one ≡ other
-  same_reports_at index query k [] [] [] is theirs = refl
-  same_reports_at index query k [] [] (t ∷ ts) is theirs = absurd theirs
-  same_reports_at index query k [] (r ∷ rs) other is theirs = absurd is
-  same_reports_at index query k (n ∷ prefixes) [] other is theirs = absurd is
-  same_reports_at index query k (n ∷ prefixes) (r ∷ rs) [] is theirs = absurd theirs
-  same_reports_at index query k (n ∷ prefixes) (r ∷ rs) (t ∷ ts) is theirs =
-      let first : r ≡ t = same_report n (plan_over_index index query) k r t is.0.exact theirs.0.exact in
-      let rest : rs ≡ ts = same_reports_at index query k prefixes rs ts is.1 theirs.1 in
+  same_report_until : (until : Until) (n : ℕ) (plan : QueryPlan) (k : ℕ) (one other : Report) → IsReportUntil until n plan k one → IsReportUntil until n plan k other → one ≡ other
+  same_report_until untils.Budget n plan k one other is theirs = same_report n plan k one other is theirs
+  same_report_until untils.Final n plan k one other is theirs =
+      let grade : one.grade ≡ other.grade = one_sharp_grade n k plan one.grade other.grade is.graded theirs.graded in
+      is.numbers ∙ ap (report_of n plan) grade ∙ sym theirs.numbers
+
+  same_reports_at : (index : IndexData) (until : Until) (query : QueryData) (k : ℕ) (prefixes : List ℕ) (one other : List Report) → AllZip (IsReportOf until index query k) prefixes one → AllZip (IsReportOf until index query k) prefixes other → one ≡ other
+  same_reports_at index until query k [] [] [] is theirs = refl
+  same_reports_at index until query k [] [] (t ∷ ts) is theirs = absurd theirs
+  same_reports_at index until query k [] (r ∷ rs) other is theirs = absurd is
+  same_reports_at index until query k (n ∷ prefixes) [] other is theirs = absurd is
+  same_reports_at index until query k (n ∷ prefixes) (r ∷ rs) [] is theirs = absurd theirs
+  same_reports_at index until query k (n ∷ prefixes) (r ∷ rs) (t ∷ ts) is theirs =
+      let first : r ≡ t = same_report_until until n (plan_over_index index query) k r t is.0.exact theirs.0.exact in
+      let rest : rs ≡ ts = same_reports_at index until query k prefixes rs ts is.1 theirs.1 in
       λ i. first i ∷ rest i
 
-  same_reports : (index : IndexData) (search : asked.Search) (queries : List QueryData) (one other : List (List Report)) → AllZip (AreSearchReports index search) queries one → AllZip (AreSearchReports index search) queries other → one ≡ other
-  same_reports index search [] [] [] is theirs = refl
-  same_reports index search [] [] (t ∷ ts) is theirs = absurd theirs
-  same_reports index search [] (r ∷ rs) other is theirs = absurd is
-  same_reports index search (query ∷ queries) [] other is theirs = absurd is
-  same_reports index search (query ∷ queries) (r ∷ rs) [] is theirs = absurd theirs
-  same_reports index search (query ∷ queries) (r ∷ rs) (t ∷ ts) is theirs =
-      let first : r ≡ t = same_reports_at index query search.k (search.stops (plan_over_index index query)) r t is.0 theirs.0 in
-      let rest : rs ≡ ts = same_reports index search queries rs ts is.1 theirs.1 in
+  same_reports : (index : IndexData) (wanted : asked.Search) (queries : List QueryData) (one other : List (List Report)) → AllZip (AreSearchReports index wanted) queries one → AllZip (AreSearchReports index wanted) queries other → one ≡ other
+  same_reports index wanted [] [] [] is theirs = refl
+  same_reports index wanted [] [] (t ∷ ts) is theirs = absurd theirs
+  same_reports index wanted [] (r ∷ rs) other is theirs = absurd is
+  same_reports index wanted (query ∷ queries) [] other is theirs = absurd is
+  same_reports index wanted (query ∷ queries) (r ∷ rs) [] is theirs = absurd theirs
+  same_reports index wanted (query ∷ queries) (r ∷ rs) (t ∷ ts) is theirs =
+      let first : r ≡ t = same_reports_at index wanted.until query wanted.k (wanted.stops (plan_over_index index query)) r t is.0 theirs.0 in
+      let rest : rs ≡ ts = same_reports index wanted queries rs ts is.1 theirs.1 in
       λ i. first i ∷ rest i
 
   same_search : (search : asked.Search) (inputs : SearchInputs) (one other : Output) → IsSearchOutput search inputs one → IsSearchOutput search inputs other → one ≡ other
@@ -93,7 +104,7 @@ module _ (one_grade : (scores : List ℕ) (k bound : ℕ) (first second : Grade)
 
   pub one_output : (command : CommandData) → HasOneOutput (meaning_of command)
   one_output (Once ciff k budget terms) = λ inputs input one other is theirs. same_texts other one other (same_answer (record { k = k; budget = budget; words = terms }) inputs one other is theirs) refl
-  one_output (Search index queries run k limits tag mode) = λ inputs input one other is theirs. same_texts other one other (same_search (search_within k limits tag) inputs one other is theirs) refl
+  one_output (Search index queries run k limits tag mode until) = λ inputs input one other is theirs. same_texts other one other (same_search (search_until until k limits tag) inputs one other is theirs) refl
   one_output (Shards indexes queries run k limits tag mode) = λ inputs input one other is theirs. same_texts other one other (same_search (search_within k limits tag) inputs one other is theirs) refl
   one_output (Audit index queries run reports k limits tag mode) = λ inputs input one other is theirs.
       same_texts other one other (same_audit (record { k = k; budgets = limits; tag = tag }) inputs one other is theirs) refl

@@ -1,5 +1,5 @@
 -- How a command ran, from how it came to its end: what it doesn't take stays.
-use Rattle.std.proofs.Common.{◌≡◌, ◌≤◌, ◌+◌, ℕ, List, [], ◌∷◌, ◌++◌, true, false, Result, refl, inl, sym, subst, ◌∙◌, arith}
+use Rattle.std.proofs.Common.{◌≡◌, ◌+◌, ℕ, List, [], ◌∷◌, ◌++◌, true, false, Result, refl, inl, sym, subst, ◌∙◌, arith}
 use Rattle.jass_top.specs.declared.stop.Stop.{Stop}
 use Rattle.jass_top.specs.declared.stop.Stop.TheVariants as stops
 use Rattle.jass_top.specs.Causes.{IsOneOf}

@@ -10,7 +10,8 @@ use Rattle.jass_top.specs.declared.trial_sums.TrialSums.{TrialSums}
 use Rattle.jass_top.specs.SearchMeaning.{IsSearchReport, plan_over_index}
 use Rattle.jass_top.specs.TrialMeaning.{AreTrialReports, IsTrialOutput, budget_line, hit_scores, index_line, is_final, sum_line, trial_budgets, trial_prefix, trial_scores}
 use Rattle.jass_top.specs.TrialSums.{budget_text, hits_after, no_sums, report_after, trial_output, with_queries, with_query}
-use Rattle.jass_top.proofs.Searched.{Fits, GiveReports, KeepPromises, scored_within}
+use Rattle.jass_top.proofs.Engines.{Fits}
+use Rattle.jass_top.proofs.Searched.{GiveReports, KeepPromises, scored_within}
 
 -- ---- the sums
 

@@ -10,7 +10,7 @@ use Rattle.jass_top.specs.Meanings.{Meaning}
 use Rattle.jass_top.specs.MigrateMeaning.{migrate_meaning}
 use Rattle.jass_top.specs.OnceMeaning.{once_meaning}
 use Rattle.jass_top.specs.RewriteMeaning.{rewrite_meaning}
-use Rattle.jass_top.specs.SearchMeaning.{search_meaning, search_within}
+use Rattle.jass_top.specs.SearchMeaning.{search_meaning, search_until, search_within}
 use Rattle.jass_top.specs.ServeMeaning.{serve_meaning}
 use Rattle.jass_top.specs.ShardsMeaning.{shards_meaning}
 use Rattle.jass_top.specs.TrialMeaning.{trial_meaning}
@@ -23,8 +23,8 @@ meaning_of (Import ciff index rule bits) = import_meaning ciff index rule bits
 meaning_of (Check index) = check_meaning index
 meaning_of (Export index ciff) = export_meaning index ciff
 meaning_of (Migrate from to) = migrate_meaning from to
-meaning_of (Search index queries run k limits tag mode) =
-    search_meaning index queries run (search_within k limits tag) mode
+meaning_of (Search index queries run k limits tag mode until) =
+    search_meaning index queries run (search_until until k limits tag) mode
 meaning_of (Shards indexes queries run k limits tag mode) =
     shards_meaning indexes queries run (search_within k limits tag) mode
 meaning_of (Exhaust index queries run k tag mode) = exhaust_meaning index queries run k tag mode

@@ -25,6 +25,7 @@ pub mod Stops
 pub mod TextMeaning
 pub mod TrialMeaning
 pub mod TrialSums
+pub mod Until
 pub mod VersionMeaning
 pub mod Worlds
 pub mod Private

@@ -5,6 +5,7 @@ pub mod Serving
 pub mod Sides
 pub mod Audits
 pub mod Causes
+pub mod Engines
 pub mod ServeRuns
 pub mod HeldIndexes
 pub mod Inputs

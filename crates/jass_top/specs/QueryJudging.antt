@@ -1,5 +1,6 @@
 -- What the content of a query file is judged to be.
-use Rattle.std.specs.Prelude.{◌≡◌, ℕ, List, [], ◌∷◌, map, Result, Ok, Err}
+use Rattle.std.specs.Prelude.{◌≡◌, ℕ, nat_lt, Bool, List, [], ◌∷◌, length, map, Option, Some, None, Result, Ok, Err}
+use Rattle.std.specs.List.{find}
 use Rattle.ranking_model.specs.Search.{QueryData}
 use Rattle.text_lines.specs.Lines.{LineData}
 use Rattle.query_reader.specs.declared.mode.Mode.{Mode}
@@ -9,7 +10,10 @@ use Rattle.query_reader.specs.Reading.{read_query_file}
 use Rattle.query_reader.specs.Refusals.{number_of}
 use Rattle.jass_top.specs.declared.stop.Place.{Place}
 use Rattle.jass_top.specs.declared.stop.Place.TheVariants.{Line}
-use Rattle.jass_top.specs.Judging.{Judged, Accepted, Refuses}
+use Rattle.jass_top.specs.Judging.{Judged, Accepted, Refuses, behind}
+use Rattle.jass_words.specs.declared.until.Until.{Until}
+use Rattle.jass_words.specs.declared.until.Until.TheVariants as untils
+use Rattle.jass_words.specs.declared.word_limits.TheConstants.{MOST_FINAL_TERMS}
 
 -- a query, and the number of its line among all lines of its file, from 1 on
 pub record LineQuery : Type 0 where
@@ -39,6 +43,23 @@ judged_queries name content (Err refusal) = Refuses name (number_of refusal.why)
 -- the content of a query file of this name over the terms of an index, by its queries or its first refusal
 unfoldable pub judge_queries : List ℕ → Mode → List (List ℕ) → List ℕ → Judged (List LineQuery)
 judge_queries name mode terms content = judged_queries name content (read_query_file content mode terms)
+
+-- whether a query has more than 64 known terms
+abbrev pub has_many : LineQuery → Bool
+has_many asked = nat_lt MOST_FINAL_TERMS (length asked.query.terms)
+
+abbrev pub refused_at : List ℕ → List LineQuery → Option LineQuery → Judged (List LineQuery)
+refused_at name queries (Some asked) = Refuses name 56 (Line asked.line)
+refused_at name queries None = Accepted queries
+
+-- queries of a file of this name that are searched until final: 56 at the line of the first with more than 64 known terms
+abbrev pub judge_few : List ℕ → List LineQuery → Judged (List LineQuery)
+judge_few name queries = refused_at name queries (find has_many queries)
+
+-- the same content where its queries are searched so far
+abbrev pub judge_queries_until : Until → List ℕ → Mode → List (List ℕ) → List ℕ → Judged (List LineQuery)
+judge_queries_until untils.Budget name mode terms content = judge_queries name mode terms content
+judge_queries_until untils.Final name mode terms content = behind (judge_queries name mode terms content) (judge_few name)
 
 -- the first refusal of a content has this number and place
 pub record IsRefusedQuery (content : List ℕ) (mode : Mode) (terms : List (List ℕ)) (number : ℕ) (at : Place) : Type 0 where

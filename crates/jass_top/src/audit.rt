@@ -20,7 +20,7 @@ use gathered_text::put_all;
 use index_file::IndexFile;
 use itoa::Buffer;
 use jass_base::{Cabinet, NoMemory, Query, Row, Sink, Steps, WriteFault};
-use jass_words::Audit;
+use jass_words::{Audit, Until};
 use run_audit::{Search, Verdict, check_answers};
 use std::alloc::Global;
 use std::sync::ledger::Ledger;
@@ -80,7 +80,14 @@ fn open_audit<'a, C: Cabinet>(
     ensures later { C.read_faults files.old ≤ C.read_faults files.new }
     ensures others { C.write_faults files.old ≤ C.write_faults files.new }
 {
-    let (index, queries) = open_search(alloc, audit.index, audit.queries, audit.asked.mode, files)?;
+    let (index, queries) = open_search(
+        alloc,
+        audit.index,
+        audit.queries,
+        audit.asked.mode,
+        Until::Budget,
+        files,
+    )?;
     let run = match open_run(alloc, files, audit.run) {
         Ok(run) => run,
         Err(stop) => {

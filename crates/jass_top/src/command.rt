@@ -103,6 +103,7 @@ fn do_command<'a, C: Cabinet, I: Feed, O: Sink, L: Ledger>(
             run,
             budgets,
             asked,
+            until,
         } => run_search(
             alloc,
             index,
@@ -110,6 +111,7 @@ fn do_command<'a, C: Cabinet, I: Feed, O: Sink, L: Ledger>(
             run,
             budgets.as_slice(),
             asked,
+            until,
             files,
             out,
             steps,

@@ -9,7 +9,7 @@ use crate::search::open_search;
 use crate::search_stop::{SearchOutput, SearchStop};
 use crate::stop::{OUTPUT, Stop};
 use jass_base::{Cabinet, Sink, Steps};
-use jass_words::Asked;
+use jass_words::{Asked, Until};
 use std::alloc::Global;
 use std::sync::ledger::Ledger;
 
@@ -31,7 +31,7 @@ pub fn run_exhaust<'a, C: Cabinet, O: Sink, L: Ledger>(
         (with_output O.Sink out.new (with_files C.Cabinet files.new (with_steps steps.new beside))) result }
     ensures later { C.write_faults files.old ≤ C.write_faults files.new }
 {
-    let (file, found) = open_search(alloc, index, queries, asked.mode, files)?;
+    let (file, found) = open_search(alloc, index, queries, asked.mode, Until::Budget, files)?;
     match write_exhaust(
         alloc, found, asked.k, asked.tag, &file, steps, files, run, out,
     ) {

@@ -1,7 +1,8 @@
 //! Laws of what commands mean. Each function does nothing: its contract is the law.
 
-ghost use Rattle.std.specs.Prelude.{ℕ, ◌≡◌, ◌≢◌, ◌<◌, ◌⊎◌, true, false, List, [], ◌∷◌, All, Some, None, codes, map, ◌≤◌, length, sum_by};
+ghost use Rattle.std.specs.Prelude.{ℕ, ◌≡◌, ◌≢◌, ◌<◌, ◌⊎◌, true, false, List, [], ◌∷◌, ◌++◌, All, Some, None, codes, map, ◌≤◌, length, sum_by};
 ghost use Rattle.std.specs.FinMap.{get};
+ghost use Rattle.std.specs.List.{AllByRecursion};
 ghost use Rattle.jass_base.specs.Ciff.{CollectionData, IsCiff};
 ghost use Rattle.jass_base.specs.Outside.{Files, Rose};
 ghost use Rattle.index_layout.specs.View.{FileView, IsFileView, chosen_codecs, file_bytes, index_text};
@@ -13,6 +14,7 @@ ghost use Rattle.jass_base.specs.declared.answer.Budget.{Budget};
 ghost use Rattle.jass_base.specs.declared.answer.Grade.{Grade};
 ghost use Rattle.jass_base.specs.declared.answer.Report.{Report};
 ghost use Rattle.ranking_model.specs.Finality.{first_documents};
+ghost use Rattle.ranking_model.specs.Postings.{AreTerms};
 ghost use Rattle.ranking_model.specs.Scores.{scores_after};
 ghost use Rattle.index_layout.specs.Reading.{read_index};
 ghost use Rattle.impact_segments.specs.Collections.{collection_index};
@@ -30,6 +32,11 @@ ghost use Rattle.jass_top.specs.AuditMeaning.{AuditInputs, HoldSearch, IsRefused
 ghost use Rattle.jass_top.specs.AuditMeaning.{judge_run};
 ghost use Rattle.jass_top.specs.IndexJudging.{judge_index, judge_old, IsFirstRefusal};
 ghost use Rattle.jass_words.specs.Words.{CommandData, Serve};
+ghost use Rattle.jass_words.specs.declared.until.Until.{Until};
+ghost use Rattle.jass_words.specs.declared.word_limits.TheConstants.{MOST_FINAL_TERMS};
+ghost use Rattle.ranking_model.specs.declared.plan.QueryPlan.{QueryPlan};
+ghost use Rattle.sharp_bounds.specs.Sharpness.{IsSharpFinal, IsStop};
+ghost use Rattle.jass_top.specs.Until.{stop_granted};
 ghost use Rattle.jass_base.specs.declared.limits.TheConstants.{LONGEST_FILE};
 ghost use Rattle.weights.specs.declared.quantizing.Bits.TheVariants.{Raw};
 ghost use Rattle.weights.specs.declared.weighting.Rule.TheVariants.{Tf};
@@ -42,13 +49,15 @@ ghost use Rattle.jass_top.specs.ExhaustMeaning.{IsExhaustOutput, exhaustive_answ
 ghost use Rattle.jass_top.specs.Judging.{Accepted, Missing, Refuses, Untold, IsRefused, IsUnaccepted, judge_ciff, judge_content};
 ghost use Rattle.jass_top.specs.Meanings.{HasOneOutput, Output};
 ghost use Rattle.jass_top.specs.SearchMeaning.{IsSearchOutput, IsSearchReport, Search, SearchInputs};
-ghost use Rattle.jass_top.specs.SearchMeaning.{judge_search, plan_over_index, postings_within, search_within};
+ghost use Rattle.jass_top.specs.SearchMeaning.{judge_search, judge_search_until, plan_over_index, postings_within};
+ghost use Rattle.jass_top.specs.SearchMeaning.{search_within};
 ghost use Rattle.jass_top.specs.SearchTexts.{search_output, budgets_output};
 ghost use Rattle.jass_top.specs.ServeMeaning.{IsAnswered};
 ghost use Rattle.jass_top.specs.Standing.{Keeps};
 ghost use Rattle.jass_top.specs.ExportMeaning.{export_meaning};
 ghost use Rattle.jass_top.specs.ImportMeaning.{import_meaning};
-ghost use Rattle.jass_top.specs.QueryJudging.{IsRefusedQuery, LineQuery, judge_queries, plain_query, with_lines, without_lines};
+ghost use Rattle.jass_top.specs.QueryJudging.{IsRefusedQuery, LineQuery, judge_queries, judge_queries_until};
+ghost use Rattle.jass_top.specs.QueryJudging.{plain_query, with_lines, without_lines};
 ghost use Rattle.jass_top.specs.TrialMeaning.{IsTrialOutput};
 ghost use Rattle.jass_top.specs.TrialSums.{trial_output};
 ghost use Rattle.jass_top.specs.Worlds.{World};
@@ -65,12 +74,15 @@ use ranking_model::laws::{
     a_plan_has_the_segments_of_its_postings, plans_are_small, reports_keep_their_promises,
     the_grade_is_one, the_prefix_is_the_longest, the_segments_have_all_postings,
 };
-use ranking_model::prefix_laws::each_budget_has_its_prefix;
+use ranking_model::prefix_laws::{a_prefix_is_resumed, each_budget_has_its_prefix};
 use run_audit::laws::{
     a_search_is_audited_with_yes, an_audit_has_one_verdict, ids_of_a_query_file_are_columns,
     terms_of_a_query_file_can_be_asked,
 };
 use segment_codecs::laws::the_choice_is_the_first_of_the_shortest;
+use sharp_bounds::laws::{
+    a_final_answer_is_sharply_final, a_sharply_final_answer_stands, the_rule_says_where_to_stop,
+};
 use trec_run::laws::runs_are_read;
 
 /// A CIFF file is accepted exactly where it is there and its content stands for the collection. It
@@ -158,11 +170,64 @@ pub fn query_files_are_judged()
     query_files_are_read();
 }
 
+/// Queries that are searched until final are those of their file where none has more than 64 known terms; else it is
+/// refused by 56 at the line of the first that has more. A refusal of one of its lines comes first.
+pub fn queries_until_final_have_few_terms()
+    ensures found { (name : List ℕ) (mode : Mode) (terms : List (List ℕ)) (content : List ℕ) (queries : List LineQuery)
+        → judge_queries_until Until.Final name mode terms content ≡ Accepted queries
+        → (judge_queries name mode terms content ≡ Accepted queries)
+        × AllByRecursion (λ (asked : LineQuery). length asked.query.terms ≤ MOST_FINAL_TERMS) queries }
+    ensures only { (name : List ℕ) (mode : Mode) (terms : List (List ℕ)) (content : List ℕ) (queries : List LineQuery)
+        → judge_queries name mode terms content ≡ Accepted queries
+        → AllByRecursion (λ (asked : LineQuery). length asked.query.terms ≤ MOST_FINAL_TERMS) queries
+        → judge_queries_until Until.Final name mode terms content ≡ Accepted queries }
+    ensures many { (name : List ℕ) (mode : Mode) (terms : List (List ℕ)) (content : List ℕ)
+        (before after : List LineQuery) (asked : LineQuery)
+        → judge_queries name mode terms content ≡ Accepted (before ++ asked ∷ after)
+        → AllByRecursion (λ (other : LineQuery). length other.query.terms ≤ MOST_FINAL_TERMS) before
+        → MOST_FINAL_TERMS < length asked.query.terms
+        → judge_queries_until Until.Final name mode terms content ≡ Refuses name 56 (Place.Line asked.line) }
+    ensures refused { (name other : List ℕ) (mode : Mode) (terms : List (List ℕ)) (content : List ℕ) (number : ℕ)
+        (at : Place) → judge_queries name mode terms content ≡ Refuses other number at
+        → judge_queries_until Until.Final name mode terms content ≡ Refuses other number at }
+{}
+
+/// A search until final reports each query at the first prefix, up to that of what was granted, whose answer no gains
+/// within what each document is unseen in can change, and at that of what was granted where there is none. There is one
+/// such prefix. A later grant doesn't move it once the answer is so.
+pub fn a_search_until_final_stops_as_soon_as_it_may()
+    ensures stop { (index queries : List ℕ) (mode : Mode) (files : Files) (inputs : SearchInputs) (k granted : ℕ)
+        → ((content : List ℕ) → get files index ≡ Some content → All (λ byte. byte < 256) content)
+        → judge_search_until Until.Final index queries mode (Some files) ≡ Accepted inputs
+        → AllByRecursion (λ (query : QueryData). IsStop granted (plan_over_index inputs.index query) k
+        (stop_granted Until.Final k granted (plan_over_index inputs.index query))) (without_lines inputs.queries) }
+    ensures one { (k granted n : ℕ) (plan : QueryPlan)
+        → IsStop granted plan k (stop_granted Until.Final k granted plan) → IsStop granted plan k n
+        → n ≡ stop_granted Until.Final k granted plan }
+    ensures stays { (k granted more : ℕ) (plan : QueryPlan) → granted ≤ more
+        → IsStop granted plan k (stop_granted Until.Final k granted plan)
+        → IsStop more plan k (stop_granted Until.Final k more plan)
+        → IsSharpFinal (stop_granted Until.Final k granted plan) plan k
+        → stop_granted Until.Final k more plan ≡ stop_granted Until.Final k granted plan }
+{
+    index_files_are_judged();
+    query_files_are_judged();
+    terms_of_a_query_file_can_be_asked();
+    ids_of_a_query_file_are_columns();
+    the_flat_list_is_flat();
+    the_prefix_is_the_longest();
+    a_prefix_is_resumed();
+    the_rule_says_where_to_stop();
+}
+
 /// What a search leaves query by query is its output: the run of the definitions over the flat list
-/// of the index, and a report for each query and stop, which keeps what it promises; so is what
-/// it leaves within budgets, whose stops are the prefixes that they pay for.
+/// of the index, and a report for each query and stop, which keeps what it promises; where queries are
+/// searched until final these have terms as a query file does. So is what it leaves within budgets,
+/// whose stops are the prefixes that they pay for.
 pub fn a_search_leaves_its_output()
     ensures at_stops { (index : IndexData) (search : Search) (queries : List LineQuery) → IsSearchable index
+        → (search.until ≡ Until.Final
+        → AllByRecursion (λ (query : QueryData). AreTerms query.terms) (without_lines queries))
         → IsSearchOutput search (record { index = index; queries = queries })
         (search_output index search (without_lines queries)) }
     ensures within_budgets { (index : IndexData) (k : ℕ) (budgets : List Budget) (tag : List ℕ)
@@ -175,6 +240,9 @@ pub fn a_search_leaves_its_output()
     each_budget_has_its_prefix();
     a_prefix_has_one_report();
     reports_keep_their_promises();
+    a_final_answer_is_sharply_final();
+    a_sharply_final_answer_stands();
+    the_rule_says_where_to_stop();
 }
 
 /// The output of a search within budgets is said by these alone: the run has an answer for each
@@ -317,6 +385,7 @@ pub fn a_command_has_one_output()
 {
     the_grade_is_one();
     an_audit_has_one_verdict();
+    the_rule_says_where_to_stop();
 }
 
 /// Why a run ends as it does. Where an input isn't accepted nothing is left, and running out of memory and counted read

@@ -9,6 +9,7 @@ mod check;
 mod collection_file;
 mod command;
 mod content_input;
+mod engine;
 mod exhaust;
 mod exhaust_file;
 mod exhaust_queries;

@@ -5,15 +5,16 @@ ghost use Rattle.ranking_model.specs.Report.{report_line, run_lines, tag_of};
 ghost use Rattle.ranking_model.specs.Search.{query_data};
 ghost use Rattle.frame_pool.specs.ChainView.{LeavesPool};
 ghost use Rattle.gathered_text.specs.Gathering.{Gathers};
-ghost use Rattle.session_engine.specs.Standing.{IsSessionOf, SessionStands};
-ghost use Rattle.session_engine.specs.Standing.{chain_of, granted_of, k_of, query_of, report_of};
 ghost use Rattle.jass_top.specs.declared.search_stop.SearchOutput.{SearchOutput};
-ghost use Rattle.jass_top.specs.SearchTexts.{first_part_of};
+ghost use Rattle.jass_top.specs.SearchMeaning.{search_until};
+ghost use Rattle.jass_top.specs.SearchTexts.{first_part_of, stops_reports, stops_run, stops_steps};
+ghost use Rattle.jass_top.specs.Private.Engines.{EngineStands, IsEngineOf, chain_of, granted_of, k_of, query_of};
+ghost use Rattle.jass_top.specs.Private.Engines.{report_of, until_of};
 ghost use Rattle.jass_top.specs.Private.SearchRuns.{Stepped, answer_text, report_text};
-ghost use Rattle.jass_top.specs.SearchTexts.{query_reports, query_run, query_steps};
 ghost use Rattle.jass_top.specs.Private.Sides.{Side};
 ghost use Rattle.jass_words.specs.declared.word_limits.TheConstants.{MOST_BUDGETS};
 
+use crate::engine::Engine;
 use crate::search_stop::SearchOutput;
 use frame_pool::FramePool;
 use frame_pool::laws::calls_on_one_chain;
@@ -21,20 +22,18 @@ use gathered_text::{Buffer, flush};
 use index_file::NamedSource;
 use jass_base::{Budget, Hit, Report, Sink, Steps, WriteFault};
 use ranking_model::laws::{the_prefix_is_the_longest, the_ranking_has_documents_of_the_scores};
-use ranking_model::prefix_laws::{
-    a_prefix_is_resumed, each_budget_has_its_prefix, one_budget_more_is_granted,
-};
-use session_engine::Session;
-use session_engine::laws::{a_session_plan_names_its_segments, a_standing_session_has_its_chain};
+use ranking_model::prefix_laws::{a_prefix_is_resumed, one_budget_more_is_granted};
+use session_engine::laws::a_session_plan_names_its_segments;
+use sharp_search::laws::a_search_stops_as_soon_as_it_may;
 use std::sync::ledger::Ledger;
 use trec_run::{gather_answer, gather_report};
 
 /// The most bytes of a report line without its id.
 const REPORT_BYTES: usize = 160;
 
-/// Gathers the run lines and the report lines of one session, budget by budget.
+/// Gathers the run lines and the report lines of one query, budget by budget.
 pub fn gather_budgets<S: NamedSource, R: Sink, O: Sink, L: Ledger>(
-    session: &mut Session,
+    engine: &mut Engine,
     budgets: &[Budget],
     tag: &str,
     source: &S,
@@ -46,28 +45,31 @@ pub fn gather_budgets<S: NamedSource, R: Sink, O: Sink, L: Ledger>(
     out_buffer: &mut Buffer,
 ) -> Result<(), SearchOutput>
     requires few { length budgets.now ≤ MOST_BUDGETS }
-    requires stands { SessionStands session.old (S.index source.now) pool.old }
-    requires none { granted_of session.old ≡ 0 }
-    ensures stands { SessionStands session.new (S.index source.now) pool.new }
-    ensures same { IsSessionOf session.old session.new }
-    ensures leaves { LeavesPool pool.old pool.new (chain_of session.old) }
-    ensures steps { Stepped steps.old steps.new
-        (query_steps (S.index source.now) budgets.now (query_data (query_of session.old))) result }
-    ensures run { Side R.written R.faults R.rest SearchOutput.Run run.old run.new run_buffer.old run_buffer.new
-        (query_run (S.index source.now) (k_of session.old) budgets.now tag.now (query_data (query_of session.old)))
+    requires stands { EngineStands engine.old (S.index source.now) pool.old }
+    requires none { granted_of engine.old ≡ 0 }
+    ensures stands { EngineStands engine.new (S.index source.now) pool.new }
+    ensures same { IsEngineOf engine.old engine.new }
+    ensures leaves { LeavesPool pool.old pool.new (chain_of engine.old) }
+    ensures steps { Stepped steps.old steps.new (stops_steps (S.index source.now)
+        (search_until (until_of engine.old) (k_of engine.old) budgets.now tag.now) (query_data (query_of engine.old)))
         result }
+    ensures run { Side R.written R.faults R.rest SearchOutput.Run run.old run.new run_buffer.old run_buffer.new
+        (stops_run (S.index source.now) (search_until (until_of engine.old) (k_of engine.old) budgets.now tag.now)
+        (query_data (query_of engine.old))) result }
     ensures out { Side O.written O.faults O.rest SearchOutput.Reports out.old out.new out_buffer.old out_buffer.new
-        (query_reports (S.index source.now) (k_of session.old) budgets.now (query_data (query_of session.old))) result }
+        (stops_reports (S.index source.now) (search_until (until_of engine.old) (k_of engine.old) budgets.now tag.now)
+        (query_data (query_of engine.old))) result }
 {
+    source.is_searchable();
     the_prefix_is_the_longest();
     a_prefix_is_resumed();
-    each_budget_has_its_prefix();
     one_budget_more_is_granted();
+    a_search_stops_as_soon_as_it_may();
     calls_on_one_chain();
     let mut part = first_part(budgets);
     for budget in budgets {
         gather_budget(
-            session, *budget, part, tag, source, pool, steps, run, run_buffer, out, out_buffer,
+            engine, *budget, part, tag, source, pool, steps, run, run_buffer, out, out_buffer,
         )?;
         part += 1;
     }
@@ -83,7 +85,7 @@ fn first_part(budgets: &[Budget]) -> u32
 
 /// Gathers the run lines and the report line of one grant.
 fn gather_budget<S: NamedSource, R: Sink, O: Sink, L: Ledger>(
-    session: &mut Session,
+    engine: &mut Engine,
     budget: Budget,
     part: u32,
     tag: &str,
@@ -95,26 +97,26 @@ fn gather_budget<S: NamedSource, R: Sink, O: Sink, L: Ledger>(
     out: &mut O,
     out_buffer: &mut Buffer,
 ) -> Result<(), SearchOutput>
-    requires stands { SessionStands session.old (S.index source.now) pool.old }
-    ensures stands { SessionStands session.new (S.index source.now) pool.new }
-    ensures granted { granted_of session.new ≡ granted_with (granted_of session.old) budget }
-    ensures same { IsSessionOf session.old session.new }
-    ensures leaves { LeavesPool pool.old pool.new (chain_of session.old) }
-    ensures steps { steps.new + (report_of session.old).postings ≡ steps.old + (report_of session.new).postings }
+    requires stands { EngineStands engine.old (S.index source.now) pool.old }
+    ensures stands { EngineStands engine.new (S.index source.now) pool.new }
+    ensures granted { granted_of engine.new ≡ granted_with (granted_of engine.old) budget }
+    ensures same { IsEngineOf engine.old engine.new }
+    ensures leaves { LeavesPool pool.old pool.new (chain_of engine.old) }
+    ensures steps { steps.new + (report_of engine.old).postings ≡ steps.old + (report_of engine.new).postings }
     ensures run { Side R.written R.faults R.rest SearchOutput.Run run.old run.new run_buffer.old run_buffer.new
-        (answer_text (S.index source.now) session.new tag.now part) result }
+        (answer_text (S.index source.now) engine.new tag.now part) result }
     ensures out { Side O.written O.faults O.rest SearchOutput.Reports out.old out.new out_buffer.old out_buffer.new
-        (report_text session.new) result }
+        (report_text engine.new) result }
 {
     a_session_plan_names_its_segments();
     the_ranking_has_documents_of_the_scores();
-    let report = session.grant(source, pool, budget, steps);
-    let query = session.query();
+    let report = engine.grant(source, pool, budget, steps);
+    let query = engine.query();
     gather_turn(
         query.id.as_str(),
         query.unknown,
         report,
-        session.answer(),
+        engine.answer(),
         part,
         tag,
         source,

@@ -5,8 +5,9 @@ ghost use Rattle.session_engine.specs.Plans.{AreKnown};
 ghost use Rattle.jass_top.specs.declared.search_stop.SearchOutput.{SearchOutput};
 ghost use Rattle.jass_top.specs.declared.search_stop.SearchStop.{SearchStop};
 ghost use Rattle.jass_top.specs.Private.RunFiles.{WroteBehind, WroteFile};
-ghost use Rattle.jass_top.specs.Private.SearchRuns.{IsReady, Stepped, asked_of};
-ghost use Rattle.jass_top.specs.SearchTexts.{queries_reports, queries_run, queries_steps};
+ghost use Rattle.jass_top.specs.Private.SearchRuns.{IsReady, MayStop, Stepped, asked_of};
+ghost use Rattle.jass_top.specs.SearchMeaning.{search_until};
+ghost use Rattle.jass_top.specs.SearchTexts.{search_output};
 ghost use Rattle.jass_top.specs.Private.Sides.{WroteSide};
 ghost use Rattle.jass_base.specs.declared.limits.TheConstants.{MOST_HITS};
 ghost use Rattle.jass_words.specs.declared.word_limits.TheConstants.{MOST_BUDGETS};
@@ -16,6 +17,7 @@ use crate::search_stop::{SearchOutput, SearchStop};
 use frame_pool::FramePool;
 use index_file::{NamedSource, Source};
 use jass_base::{Budget, Cabinet, FileSink, Query, Row, Sink, Steps};
+use jass_words::Until;
 use std::alloc::Global;
 use std::sync::ledger::Ledger;
 
@@ -26,6 +28,7 @@ pub fn write_search<S: NamedSource, C: Cabinet, O: Sink, L: Ledger>(
     k: u32,
     budgets: &[Budget],
     tag: &str,
+    until: Until,
     source: &S,
     steps: &mut Steps<L>,
     files: &mut C,
@@ -36,12 +39,16 @@ pub fn write_search<S: NamedSource, C: Cabinet, O: Sink, L: Ledger>(
     requires few_hits { k ≤ MOST_HITS }
     requires few_budgets { length budgets.now ≤ MOST_BUDGETS }
     requires known { AllByRecursion (λ (query : Query). AreKnown (S.index source.now) query.terms) queries }
+    requires few_terms { AllByRecursion (MayStop until) queries }
     ensures steps { Stepped steps.old steps.new
-        (queries_steps (S.index source.now) budgets.now (asked_of queries)) result }
+        (search_output (S.index source.now)
+        (search_until until k budgets.now tag.now) (asked_of queries)).steps result }
     ensures run { WroteFile C.told C.write_faults (SearchStop.Unwritten SearchOutput.Run) files.old files.new name.now
-        (queries_run (S.index source.now) k budgets.now tag.now (asked_of queries)) result }
+        (search_output (S.index source.now) (search_until until k budgets.now tag.now) (asked_of queries)).content
+        result }
     ensures out { WroteSide O.written O.faults O.rest (SearchStop.Unwritten SearchOutput.Reports) out.old out.new
-        (queries_reports (S.index source.now) k budgets.now (asked_of queries)) result }
+        (search_output (S.index source.now) (search_until until k budgets.now tag.now) (asked_of queries)).text
+        result }
 {
     source.is_searchable();
     let mut pool = match FramePool::new(alloc, Source::docs(source).div_ceil(256), 1) {
@@ -61,7 +68,7 @@ pub fn write_search<S: NamedSource, C: Cabinet, O: Sink, L: Ledger>(
     }
     let mut sink = FileSink { files, name };
     let searched = search_behind(
-        alloc, queries, k, budgets, tag, source, &mut pool, steps, &mut sink, out,
+        alloc, queries, k, budgets, tag, until, source, &mut pool, steps, &mut sink, out,
     );
     let FileSink { files: _, name: _ } = sink;
     drop(pool);
@@ -75,6 +82,7 @@ fn search_behind<'a, S: NamedSource, C: Cabinet, O: Sink, L: Ledger>(
     k: u32,
     budgets: &[Budget],
     tag: &str,
+    until: Until,
     source: &S,
     pool: &mut FramePool,
     steps: &mut Steps<L>,
@@ -85,18 +93,22 @@ fn search_behind<'a, S: NamedSource, C: Cabinet, O: Sink, L: Ledger>(
     requires few_hits { k ≤ MOST_HITS }
     requires few_budgets { length budgets.now ≤ MOST_BUDGETS }
     requires known { AllByRecursion (λ (query : Query). AreKnown (S.index source.now) query.terms) queries }
+    requires few_terms { AllByRecursion (MayStop until) queries }
     requires ready { IsReady (S.index source.now) pool.old }
     ensures steps { Stepped steps.old steps.new
-        (queries_steps (S.index source.now) budgets.now (asked_of queries)) result }
+        (search_output (S.index source.now)
+        (search_until until k budgets.now tag.now) (asked_of queries)).steps result }
     ensures same_reference { sink.new.files.ghost_name ≡ sink.old.files.ghost_name }
     ensures same_name { sink.new.name.now ≡ sink.old.name.now }
     ensures run { WroteBehind C.told C.write_faults (SearchStop.Unwritten SearchOutput.Run)
         sink.old.files.now sink.new.files.now sink.old.name.now
-        (queries_run (S.index source.now) k budgets.now tag.now (asked_of queries)) result }
+        (search_output (S.index source.now) (search_until until k budgets.now tag.now) (asked_of queries)).content
+        result }
     ensures out { WroteSide O.written O.faults O.rest (SearchStop.Unwritten SearchOutput.Reports) out.old out.new
-        (queries_reports (S.index source.now) k budgets.now (asked_of queries)) result }
+        (search_output (S.index source.now) (search_until until k budgets.now tag.now) (asked_of queries)).text
+        result }
 {
     search_all(
-        alloc, queries, k, budgets, tag, source, pool, steps, sink, out,
+        alloc, queries, k, budgets, tag, until, source, pool, steps, sink, out,
     )
 }

@@ -14,7 +14,7 @@ use crate::shards_input::open_shards;
 use crate::stop::{OUTPUT, Stop};
 use index_file::Source;
 use jass_base::{Budget, Cabinet, Sink, Steps};
-use jass_words::Shards;
+use jass_words::{Shards, Until};
 use std::alloc::Global;
 use std::sync::ledger::Ledger;
 
@@ -41,7 +41,17 @@ pub fn run_shards<'a, C: Cabinet, O: Sink, L: Ledger>(
     let (union, found) = open_shards(alloc, shards.indexes, shards.queries, asked.mode, files)?;
     union.is_searchable();
     match write_search(
-        alloc, found, asked.k, budgets, asked.tag, &union, steps, files, shards.run, out,
+        alloc,
+        found,
+        asked.k,
+        budgets,
+        asked.tag,
+        Until::Budget,
+        &union,
+        steps,
+        files,
+        shards.run,
+        out,
     ) {
         Ok(()) => {
             drop(union);

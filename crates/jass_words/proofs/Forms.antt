@@ -5,6 +5,7 @@ use Rattle.jass_words.proofs.Below.{Plain, Tf, Raw}
 use Rattle.jass_base.specs.declared.answer.Budget.TheVariants as budgets
 use Rattle.jass_words.specs.declared.keys.Key.{Key}
 use Rattle.jass_words.specs.declared.keys.Key.TheVariants as keys
+use Rattle.jass_words.specs.declared.until.Until.TheVariants as untils
 use Rattle.jass_words.specs.declared.names.Name.{Name}
 use Rattle.jass_words.specs.declared.names.Name.TheVariants as names
 use Rattle.jass_words.specs.Numbers.{IsNumber}
@@ -174,6 +175,7 @@ an_option keys.Hits = (codes "k=1", 1, record { value = codes "1"; parts = refl;
 an_option keys.Limits = (codes "budget=all", budgets.All ∷ [], record { value = codes "all"; parts = refl; says = record { each = (refl, tt); few = omega arith } })
 an_option keys.Tag = (codes "tag=a", codes "a", record { value = codes "a"; parts = refl; says = (refl, a_tag) })
 an_option keys.Reading = (codes "mode=plain", Plain, record { value = codes "plain"; parts = refl; says = refl })
+an_option keys.Stopping = (codes "until=final", untils.Final, record { value = codes "final"; parts = refl; says = refl })
 an_option keys.Weights = (codes "weights=tf", Tf, record { value = codes "tf"; parts = refl; says = refl })
 an_option keys.Width = (codes "bits=raw", Raw, record { value = codes "raw"; parts = refl; says = refl })
 an_option keys.Frames = (codes "frames=1", 1, record { value = codes "1"; parts = refl; says = one_is 1 1048576 (omega arith) (omega arith) })

@@ -9,10 +9,12 @@ use Rattle.jass_words.proofs.Below.{decimal_of, Budget, Mode, Plain, Folded, Rul
 use Rattle.jass_base.specs.declared.answer.Budget.TheVariants as budgets
 use Rattle.jass_words.specs.declared.keys.Key.{Key}
 use Rattle.jass_words.specs.declared.keys.Key.TheVariants as keys
+use Rattle.jass_words.specs.declared.until.Until.{Until}
+use Rattle.jass_words.specs.declared.until.Until.TheVariants as untils
 use Rattle.jass_words.specs.declared.option_words.OptionWord.{OptionWord}
 use Rattle.jass_words.specs.declared.options.Options.{Options}
 use Rattle.jass_words.specs.Numbers.{IsNumber, IsBudget}
-use Rattle.jass_words.specs.Options.{Said, OptionData, IsMode, IsRule, IsBits, IsValue, IsOption, AreOptions, said_as, given, key_text}
+use Rattle.jass_words.specs.Options.{Said, OptionData, IsMode, IsUntil, IsRule, IsBits, IsValue, IsOption, AreOptions, said_as, given, key_text}
 use Rattle.jass_words.specs.Spelled.{Spell, HaveOnce}
 use Rattle.jass_words.specs.Private.Reading.{option_data, found, is_found, AreRead, Takes}
 use Rattle.jass_words.proofs.Spelling.{spell_one, as_many, spelled_more, all_more, once_more, once_before, all_at, parted}
@@ -31,6 +33,12 @@ one_mode value Plain Plain is theirs = refl
 one_mode value Folded Folded is theirs = refl
 one_mode value Plain Folded is theirs = (let both : codes "plain" ≡ codes "folded" = sym is ∙ theirs in cc)
 one_mode value Folded Plain is theirs = (let both : codes "plain" ≡ codes "folded" = sym theirs ∙ is in cc)
+
+one_until : (value : List ℕ) (a b : Until) → IsUntil value a → IsUntil value b → a ≡ b
+one_until value untils.Budget untils.Budget is theirs = refl
+one_until value untils.Final untils.Final is theirs = refl
+one_until value untils.Budget untils.Final is theirs = (let both : codes "budget" ≡ codes "final" = sym is ∙ theirs in cc)
+one_until value untils.Final untils.Budget is theirs = (let both : codes "budget" ≡ codes "final" = sym theirs ∙ is in cc)
 
 one_rule : (value : List ℕ) (a b : Rule) → IsRule value a → IsRule value b → a ≡ b
 one_rule value Tf Tf is theirs = refl
@@ -52,6 +60,7 @@ one_said keys.Hits value a b is theirs = one_number value 1 100000 a b is theirs
 one_said keys.Limits value a b is theirs = spell_one IsBudget one_budget (slice_split (λ c. eqb c 44) value) a b is.each theirs.each
 one_said keys.Tag value a b is theirs = sym is.0 ∙ theirs.0
 one_said keys.Reading value a b is theirs = one_mode value a b is theirs
+one_said keys.Stopping value a b is theirs = one_until value a b is theirs
 one_said keys.Weights value a b is theirs = one_rule value a b is theirs
 one_said keys.Width value a b is theirs = one_width value a b is theirs
 one_said keys.Frames value a b is theirs = one_number value 1 1048576 a b is theirs
@@ -84,6 +93,7 @@ said_key keys.Hits keys.Hits said value is = refl
 said_key keys.Limits keys.Limits said value is = refl
 said_key keys.Tag keys.Tag said value is = refl
 said_key keys.Reading keys.Reading said value is = refl
+said_key keys.Stopping keys.Stopping said value is = refl
 said_key keys.Weights keys.Weights said value is = refl
 said_key keys.Width keys.Width said value is = refl
 said_key keys.Frames keys.Frames said value is = refl

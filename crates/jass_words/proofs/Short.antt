@@ -6,10 +6,12 @@ use Rattle.jass_words.proofs.Below.{is_decimal, decimal_of, Budget, Rule, Tf, Bm
 use Rattle.jass_base.specs.declared.answer.Budget.TheVariants as budgets
 use Rattle.jass_words.specs.declared.keys.Key.{Key}
 use Rattle.jass_words.specs.declared.keys.Key.TheVariants as keys
+use Rattle.jass_words.specs.declared.until.Until.{Until}
+use Rattle.jass_words.specs.declared.until.Until.TheVariants as untils
 use Rattle.jass_words.specs.declared.names.Name.{Name}
 use Rattle.jass_words.specs.declared.names.Name.TheVariants as names
 use Rattle.jass_words.specs.Numbers.{IsBudget}
-use Rattle.jass_words.specs.Options.{Said, OptionData, AreBudgets, IsMode, IsRule, IsBits, IsValue, IsOption, key_text}
+use Rattle.jass_words.specs.Options.{Said, OptionData, AreBudgets, IsMode, IsUntil, IsRule, IsBits, IsValue, IsOption, key_text}
 use Rattle.jass_words.specs.Slots.{Slot, File, Number, Postings, Value, Values, Says, files_with, Tail, Ends, Terms, May, Must, Parts, Extra, IsTail, IsForm, IsTerm, AreFixed, PartsSaid, ArePartWords}
 use Rattle.jass_words.specs.Spelled.{Spell}
 use Rattle.jass_words.specs.Table.{word_of, slots_of, tail_of}
@@ -56,6 +58,10 @@ short_mode : (value : List ℕ) (mode : Mode) → IsMode value mode → length v
 short_mode value Plain is = (let size : length value ≡ 5 = ap length is in omega (arith, size))
 short_mode value Folded is = (let size : length value ≡ 6 = ap length is in omega (arith, size))
 
+short_until : (value : List ℕ) (until : Until) → IsUntil value until → length value ≤ 65000
+short_until value untils.Budget is = (let size : length value ≡ 6 = ap length is in omega (arith, size))
+short_until value untils.Final is = (let size : length value ≡ 5 = ap length is in omega (arith, size))
+
 short_rule : (value : List ℕ) (rule : Rule) → IsRule value rule → length value ≤ 65000
 short_rule value Tf is = (let size : length value ≡ 2 = ap length is in omega (arith, size))
 short_rule value Bm25 is = (let size : length value ≡ 4 = ap length is in omega (arith, size))
@@ -69,6 +75,7 @@ short_value keys.Hits value k is = omega (arith, few_digits value k is.decimal)
 short_value keys.Limits value limits is = short_limits value limits is
 short_value keys.Tag value tag is = (let same : length value ≡ length tag = ap length is.0 in omega (arith, same, is.1.fits))
 short_value keys.Reading value mode is = short_mode value mode is
+short_value keys.Stopping value until is = short_until value until is
 short_value keys.Weights value rule is = short_rule value rule is
 short_value keys.Width value bits is = short_bits value bits is
 short_value keys.Frames value frames is = omega (arith, few_digits value frames is.decimal)

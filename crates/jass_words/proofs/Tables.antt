@@ -23,7 +23,7 @@ same_name a b is = same_Some a b (sym (finds a) ∙ ap named is ∙ finds b)
 -- ---- keys
 
 abbrev pub all_keys : List Key
-all_keys = keys.Hits ∷ keys.Limits ∷ keys.Tag ∷ keys.Reading ∷ keys.Weights ∷ keys.Width ∷ keys.Frames ∷ []
+all_keys = keys.Hits ∷ keys.Limits ∷ keys.Tag ∷ keys.Reading ∷ keys.Stopping ∷ keys.Weights ∷ keys.Width ∷ keys.Frames ∷ []
 
 abbrev keyed : List ℕ → Option Key
 keyed text = find (λ key. bytes_eq (key_text key) text) all_keys

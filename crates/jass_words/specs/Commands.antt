@@ -11,8 +11,8 @@ command_data (commands.Import import) = Import import.ciff.now import.index.now 
 command_data (commands.Check index) = Check index.now
 command_data (commands.Export index ciff) = Export index.now ciff.now
 command_data (commands.Migrate from to) = Migrate from.now to.now
-command_data (commands.Search index queries run budgets asked) =
-    Search index.now queries.now run.now asked.k (granted budgets) asked.tag.now asked.mode
+command_data (commands.Search index queries run budgets asked until) =
+    Search index.now queries.now run.now asked.k (granted budgets) asked.tag.now asked.mode until
 command_data (commands.Shards shards) = Shards (texts shards.indexes.now) shards.queries.now shards.run.now shards.asked.k
     (granted shards.budgets) shards.asked.tag.now shards.asked.mode
 command_data (commands.Exhaust index queries run asked) =

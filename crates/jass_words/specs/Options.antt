@@ -14,6 +14,8 @@ use Rattle.jass_words.specs.Numbers.{IsNumber, IsCount, IsBudget}
 use Rattle.jass_words.specs.Spelled.{Spell, HaveOnce}
 use Rattle.jass_words.specs.declared.keys.Key.{Key}
 use Rattle.jass_words.specs.declared.keys.Key.TheVariants as keys
+use Rattle.jass_words.specs.declared.until.Until.{Until}
+use Rattle.jass_words.specs.declared.until.Until.TheVariants as untils
 use Rattle.jass_base.specs.declared.limits.TheConstants.{MOST_FRAMES}
 use Rattle.jass_words.specs.declared.word_limits.TheConstants.{LONGEST_TAG, MOST_BITS, MOST_BUDGETS}
 
@@ -23,6 +25,7 @@ key_text keys.Hits = codes "k"
 key_text keys.Limits = codes "budget"
 key_text keys.Tag = codes "tag"
 key_text keys.Reading = codes "mode"
+key_text keys.Stopping = codes "until"
 key_text keys.Weights = codes "weights"
 key_text keys.Width = codes "bits"
 key_text keys.Frames = codes "frames"
@@ -33,6 +36,7 @@ Said keys.Hits = ℕ
 Said keys.Limits = List Budget
 Said keys.Tag = List ℕ
 Said keys.Reading = Mode
+Said keys.Stopping = Until
 Said keys.Weights = Rule
 Said keys.Width = Bits
 Said keys.Frames = ℕ
@@ -58,6 +62,11 @@ abbrev pub IsMode : List ℕ → Mode → Type 0
 IsMode value Plain = value ≡ codes "plain"
 IsMode value Folded = value ≡ codes "folded"
 
+-- how far the queries are searched
+abbrev pub IsUntil : List ℕ → Until → Type 0
+IsUntil value untils.Budget = value ≡ codes "budget"
+IsUntil value untils.Final = value ≡ codes "final"
+
 -- `tf` or `bm25`
 abbrev pub IsRule : List ℕ → Rule → Type 0
 IsRule value Tf = value ≡ codes "tf"
@@ -74,6 +83,7 @@ IsValue keys.Hits value k = IsCount value k
 IsValue keys.Limits value budgets = AreBudgets value budgets
 IsValue keys.Tag value tag = (value ≡ tag) × IsTag tag
 IsValue keys.Reading value mode = IsMode value mode
+IsValue keys.Stopping value until = IsUntil value until
 IsValue keys.Weights value rule = IsRule value rule
 IsValue keys.Width value bits = IsBits value bits
 IsValue keys.Frames value frames = IsNumber value 1 MOST_FRAMES frames
@@ -96,6 +106,7 @@ said_as keys.Hits keys.Hits k = Some k
 said_as keys.Limits keys.Limits budgets = Some budgets
 said_as keys.Tag keys.Tag tag = Some tag
 said_as keys.Reading keys.Reading mode = Some mode
+said_as keys.Stopping keys.Stopping until = Some until
 said_as keys.Weights keys.Weights rule = Some rule
 said_as keys.Width keys.Width bits = Some bits
 said_as keys.Frames keys.Frames frames = Some frames

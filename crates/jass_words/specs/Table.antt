@@ -37,7 +37,8 @@ form_of names.Import = codes "CIFF INDEX* [weights=tf|bm25] [bits=raw|1..16]"
 form_of names.Check = codes "INDEX"
 form_of names.Export = codes "INDEX CIFF*"
 form_of names.Migrate = codes "OLD NEW*"
-form_of names.Search = codes "INDEX QUERIES RUN* [k=K] [budget=B,..] [tag=TAG] [mode=plain|folded]"
+form_of names.Search =
+    codes "INDEX QUERIES RUN* [k=K] [budget=B,..] [tag=TAG] [mode=plain|folded] [until=budget|final]"
 form_of names.Shards =
     codes "N INDEX1 .. INDEXN QUERIES RUN* [k=K] [budget=B,..] [tag=TAG] [mode=plain|folded]"
 form_of names.Exhaust = codes "INDEX QUERIES RUN* [k=K] [tag=TAG] [mode=plain|folded]"
@@ -89,7 +90,7 @@ tail_of names.Import = May (keys.Weights ∷ keys.Width ∷ [])
 tail_of names.Check = Ends
 tail_of names.Export = Ends
 tail_of names.Migrate = Ends
-tail_of names.Search = May (keys.Hits ∷ keys.Limits ∷ keys.Tag ∷ keys.Reading ∷ [])
+tail_of names.Search = May (keys.Hits ∷ keys.Limits ∷ keys.Tag ∷ keys.Reading ∷ keys.Stopping ∷ [])
 tail_of names.Shards = Parts (keys.Hits ∷ keys.Limits ∷ keys.Tag ∷ keys.Reading ∷ [])
 tail_of names.Exhaust = May (keys.Hits ∷ keys.Tag ∷ keys.Reading ∷ [])
 tail_of names.Audit = May (keys.Hits ∷ keys.Limits ∷ keys.Tag ∷ keys.Reading ∷ [])

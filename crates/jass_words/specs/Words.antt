@@ -16,6 +16,8 @@ use Rattle.jass_words.specs.Options.{given}
 use Rattle.jass_words.specs.Slots.{Values, Extra, IsForm, PartsSaid, files_said}
 use Rattle.jass_words.specs.Table.{word_of, slots_of, tail_of}
 use Rattle.jass_words.specs.declared.keys.Key.TheVariants as keys
+use Rattle.jass_words.specs.declared.until.Until.{Until}
+use Rattle.jass_words.specs.declared.until.Until.TheVariants as untils
 use Rattle.jass_words.specs.declared.names.Name.{Name}
 use Rattle.jass_words.specs.declared.names.Name.TheVariants as names
 use Rattle.jass_base.specs.declared.limits.TheConstants.{MOST_TRIAL}
@@ -33,7 +35,7 @@ pub data CommandData : Type 0 where
   Check : List ℕ → CommandData
   Export : List ℕ → List ℕ → CommandData
   Migrate : List ℕ → List ℕ → CommandData
-  Search : List ℕ → List ℕ → List ℕ → ℕ → List Budget → List ℕ → Mode → CommandData
+  Search : List ℕ → List ℕ → List ℕ → ℕ → List Budget → List ℕ → Mode → Until → CommandData
   Shards : List (List ℕ) → List ℕ → List ℕ → ℕ → List Budget → List ℕ → Mode → CommandData
   Exhaust : List ℕ → List ℕ → List ℕ → ℕ → List ℕ → Mode → CommandData
   Audit : List ℕ → List ℕ → List ℕ → List ℕ → ℕ → List Budget → List ℕ → Mode → CommandData
@@ -47,8 +49,9 @@ abbrev pub file_behind : ℕ → PartsSaid → List ℕ
 file_behind n said = slice_index_or (files_said said) n []
 
 -- the command that its words' values make. An import without an option weighs by tf, and weights stay raw; a search
--- without one asks for 1,000 hits, all postings may be scored, the tag is `jass`, and queries are read plain; a search over
--- parts is the same, an exhaustive one but for budgets, and an audit takes the search to have been so
+-- without one asks for 1,000 hits, all postings may be scored, the tag is `jass`, queries are read plain, and each is searched as
+-- far as its budgets go; a search over parts is the same, an exhaustive one but for budgets, and an audit takes the search to
+-- have been so
 abbrev pub command_of : (name : Name) → Values (slots_of name) → Extra (tail_of name) → CommandData
 command_of names.Once (ciff, (k, (budget, none))) terms = Once ciff k budget terms
 command_of names.Rewrite (from, (to, none)) extra = Rewrite from to
@@ -60,6 +63,7 @@ command_of names.Migrate (from, (to, none)) extra = Migrate from to
 command_of names.Search (index, (queries, (run, none))) options = Search index queries run
     (unwrap_or (given keys.Hits options) 1000) (unwrap_or (given keys.Limits options) (budgets.All ∷ []))
     (unwrap_or (given keys.Tag options) (codes "jass")) (unwrap_or (given keys.Reading options) Plain)
+    (unwrap_or (given keys.Stopping options) untils.Budget)
 command_of names.Shards none said = Shards (take said.parts (files_said said))
     (file_behind said.parts said) (file_behind (suc said.parts) said)
     (unwrap_or (given keys.Hits said.options) 1000) (unwrap_or (given keys.Limits said.options) (budgets.All ∷ []))

@@ -7,6 +7,7 @@ ghost use Rattle.jass_words.specs.Words.{IsTrialSize};
 ghost use Rattle.jass_words.specs.declared.word_limits.TheConstants.{LEAST_PARTS, MOST_PARTS};
 
 use crate::grants::Grants;
+use crate::until::Until;
 use jass_base::Budget;
 use query_reader::Mode;
 use weights::{Bits, Rule};
@@ -46,6 +47,8 @@ pub enum Command<'a> {
         /// 1 to 16; `all` alone where no option says otherwise.
         budgets: Grants,
         asked: Asked<'a>,
+        /// `Budget` where no option says otherwise.
+        until: Until,
     },
     /// Answers the queries of a file over the index files of a collection's parts, as over one, once
     /// for each budget, and writes a run file.
@@ -96,8 +99,8 @@ pub struct Import<'a> {
     pub ghost apart: { ciff.now ≢ index.now },
 }
 
-/// What `search INDEX QUERIES RUN [k=K] [budget=BUDGET,..] [tag=TAG] [mode=MODE]` asks of each query, beside its budgets;
-/// an exhaustive search and an audit ask the same.
+/// What `search INDEX QUERIES RUN [k=K] [budget=BUDGET,..] [tag=TAG] [mode=MODE] [until=UNTIL]` asks of each query,
+/// beside how far it is searched; an exhaustive search and an audit ask the same.
 #[derive(Clone, Copy)]
 pub struct Asked<'a> {
     /// 1 to 100,000 hits; 1,000 where no option says otherwise.

@@ -14,6 +14,8 @@ pub enum Key {
     Tag,
     /// How queries are read: `mode`.
     Reading,
+    /// How far queries are searched: `until`.
+    Stopping,
     /// How a posting is weighed: `weights`.
     Weights,
     /// How many bits an impact has: `bits`.
@@ -22,11 +24,12 @@ pub enum Key {
     Frames,
 }
 
-const KEYS: [Key; 7] = [
+const KEYS: [Key; 8] = [
     Key::Hits,
     Key::Limits,
     Key::Tag,
     Key::Reading,
+    Key::Stopping,
     Key::Weights,
     Key::Width,
     Key::Frames,
@@ -42,6 +45,7 @@ impl Key {
             Key::Limits => "budget",
             Key::Tag => "tag",
             Key::Reading => "mode",
+            Key::Stopping => "until",
             Key::Weights => "weights",
             Key::Width => "bits",
             Key::Frames => "frames",

@@ -5,8 +5,8 @@ ghost use Rattle.std.specs.List.{AllByRecursion};
 ghost use Rattle.jass_words.specs.Words.{CommandData, IsCommand, IsBegun};
 ghost use Rattle.jass_base.specs.declared.limits.TheConstants.{LONGEST_TERM};
 ghost use Rattle.jass_words.specs.declared.names.TheConstants.{NAMES};
-ghost use Rattle.jass_words.specs.declared.word_limits.TheConstants.{LEAST_PARTS, LONGEST_TAG, MOST_BITS, MOST_BUDGETS, MOST_PARTS};
-ghost use Rattle.jass_words.specs.declared.word_limits.TheConstants.{MOST_QUERIES, MOST_SEED, MOST_TAKEN};
+ghost use Rattle.jass_words.specs.declared.word_limits.TheConstants.{LEAST_PARTS, LONGEST_TAG, MOST_BITS, MOST_BUDGETS, MOST_FINAL_TERMS};
+ghost use Rattle.jass_words.specs.declared.word_limits.TheConstants.{MOST_PARTS, MOST_QUERIES, MOST_SEED, MOST_TAKEN};
 ghost use Rattle.jass_words.specs.Table.{all_names};
 
 /// Words are one command at most.
@@ -31,6 +31,7 @@ pub fn the_word_limits_are()
     ensures budgets { MOST_BUDGETS ≡ 16 }
     ensures least_parts { LEAST_PARTS ≡ 2 }
     ensures parts { MOST_PARTS ≡ 16 }
+    ensures final_terms { MOST_FINAL_TERMS ≡ 64 }
     ensures bits { MOST_BITS ≡ 16 }
     ensures tag { LONGEST_TAG ≡ 64 }
     ensures seed { MOST_SEED ≡ 2147483647 }

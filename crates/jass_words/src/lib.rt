@@ -15,6 +15,7 @@ mod readers;
 mod reading;
 mod slots;
 mod term_words;
+mod until;
 mod word_fault;
 pub mod word_limits;
 
@@ -23,4 +24,5 @@ pub use grants::Grants;
 pub use keys::Key;
 pub use names::{NAMES, Name, Row};
 pub use reading::read_words;
+pub use until::Until;
 pub use word_fault::WordFault;

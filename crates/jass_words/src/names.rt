@@ -92,7 +92,7 @@ impl Name {
             },
             Name::Search => Row {
                 word: "search",
-                form: "INDEX QUERIES RUN* [k=K] [budget=B,..] [tag=TAG] [mode=plain|folded]",
+                form: "INDEX QUERIES RUN* [k=K] [budget=B,..] [tag=TAG] [mode=plain|folded] [until=budget|final]",
                 does: "answer the queries of a file",
             },
             Name::Shards => Row {

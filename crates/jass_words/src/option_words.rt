@@ -3,12 +3,14 @@ ghost use Rattle.jass_base.specs.declared.answer.Budget.{Budget};
 ghost use Rattle.query_reader.specs.declared.mode.Mode.{Mode};
 ghost use Rattle.weights.specs.declared.weighting.Rule.{Rule};
 ghost use Rattle.weights.specs.declared.quantizing.Bits.{Bits};
-ghost use Rattle.jass_words.specs.Options.{OptionData, AreBudgets, IsBits, IsMode, IsOption, IsRule, IsTag, IsValue};
+ghost use Rattle.jass_words.specs.Options.{OptionData, AreBudgets, IsBits, IsMode, IsOption, IsRule, IsTag, IsUntil, IsValue};
+ghost use Rattle.jass_words.specs.declared.until.Until.{Until};
 ghost use Rattle.jass_words.specs.Private.Reading.{option_data};
 
 use crate::budgets::Budgets;
 use crate::keys::Key;
 use crate::slots::{read_budget, read_number};
+use crate::until::Until;
 use crate::word_limits::{LONGEST_TAG, MOST_BITS};
 use jass_base::limits::{MOST_FRAMES, MOST_HITS};
 use jass_base::read_decimal;
@@ -26,6 +28,8 @@ pub enum OptionWord<'a> {
     Tag(&'a str),
     /// `mode=MODE`.
     Reading(Mode),
+    /// `until=UNTIL`.
+    Stopping(Until),
     /// `weights=RULE`.
     Weights(Rule),
     /// `bits=BITS`.
@@ -43,6 +47,7 @@ impl<'a> OptionWord<'a> {
             OptionWord::Limits(_) => Key::Limits,
             OptionWord::Tag(_) => Key::Tag,
             OptionWord::Reading(_) => Key::Reading,
+            OptionWord::Stopping(_) => Key::Stopping,
             OptionWord::Weights(_) => Key::Weights,
             OptionWord::Width(_) => Key::Width,
             OptionWord::Frames(_) => Key::Frames,
@@ -89,6 +94,10 @@ fn read_value<'a>(key: Key, value: &'a str) -> Option<OptionWord<'a>>
         }
         Key::Reading => match read_mode(value) {
             Some(mode) => Some(OptionWord::Reading(mode)),
+            None => None,
+        },
+        Key::Stopping => match read_until(value) {
+            Some(until) => Some(OptionWord::Stopping(until)),
             None => None,
         },
         Key::Weights => match read_rule(value) {
@@ -146,6 +155,19 @@ fn read_mode(value: &str) -> Option<Mode>
         Some(Mode::Plain)
     } else if value == "folded" {
         Some(Mode::Folded)
+    } else {
+        None
+    }
+}
+
+fn read_until(value: &str) -> Option<Until>
+    ensures some { IfSome result (λ until. IsUntil value.now until) }
+    ensures none { result ≡ None → (until : Until) → ¬ IsUntil value.now until }
+{
+    if value == "budget" {
+        Some(Until::Budget)
+    } else if value == "final" {
+        Some(Until::Final)
     } else {
         None
     }

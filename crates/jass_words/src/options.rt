@@ -11,6 +11,7 @@ ghost use Rattle.jass_words.specs.Private.Reading.{AreRead, Takes, found, is_fou
 use crate::budgets::Budgets;
 use crate::keys::Key;
 use crate::option_words::{OptionWord, read_option};
+use crate::until::Until;
 use crate::word_fault::WordFault;
 use query_reader::Mode;
 use weights::{Bits, Rule};
@@ -22,6 +23,7 @@ pub struct Options<'a> {
     pub limits: Option<Budgets>,
     pub tag: Option<&'a str>,
     pub mode: Option<Mode>,
+    pub until: Option<Until>,
     pub rule: Option<Rule>,
     pub bits: Option<Bits>,
     pub frames: Option<u32>,
@@ -36,6 +38,7 @@ impl<'a> Options<'a> {
             limits: None,
             tag: None,
             mode: None,
+            until: None,
             rule: None,
             bits: None,
             frames: None,
@@ -51,6 +54,7 @@ impl<'a> Options<'a> {
             Key::Limits => self.limits.is_some(),
             Key::Tag => self.tag.is_some(),
             Key::Reading => self.mode.is_some(),
+            Key::Stopping => self.until.is_some(),
             Key::Weights => self.rule.is_some(),
             Key::Width => self.bits.is_some(),
             Key::Frames => self.frames.is_some(),
@@ -66,6 +70,7 @@ impl<'a> Options<'a> {
             OptionWord::Limits(budgets) => self.limits = Some(budgets),
             OptionWord::Tag(tag) => self.tag = Some(tag),
             OptionWord::Reading(mode) => self.mode = Some(mode),
+            OptionWord::Stopping(until) => self.until = Some(until),
             OptionWord::Weights(rule) => self.rule = Some(rule),
             OptionWord::Width(bits) => self.bits = Some(bits),
             OptionWord::Frames(frames) => self.frames = Some(frames),

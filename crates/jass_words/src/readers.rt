@@ -12,6 +12,7 @@ use crate::keys::Key;
 use crate::options::{read_frames, read_options};
 use crate::slots::{budget_at, file_at, files_from, number_at, read_end};
 use crate::term_words::read_terms;
+use crate::until::Until;
 use crate::word_fault::WordFault;
 use crate::word_limits::{LEAST_PARTS, MOST_PARTS, MOST_QUERIES, MOST_SEED};
 use jass_base::limits::{MOST_HITS, MOST_TRIAL};
@@ -114,7 +115,13 @@ pub fn read_search<'a>(words: &'a [String]) -> Result<Command<'a>, WordFault>
     let Some(run) = file_at(words, 3, &[index, queries]) else {
         return Err(WordFault { which: 4 });
     };
-    let allowed = [Key::Hits, Key::Limits, Key::Tag, Key::Reading];
+    let allowed = [
+        Key::Hits,
+        Key::Limits,
+        Key::Tag,
+        Key::Reading,
+        Key::Stopping,
+    ];
     match read_options(words, 4, &allowed) {
         Ok(options) => Ok(Command::Search {
             index,
@@ -126,6 +133,7 @@ pub fn read_search<'a>(words: &'a [String]) -> Result<Command<'a>, WordFault>
                 mode: options.mode.unwrap_or(Mode::Plain),
             },
             budgets: options.limits.unwrap_or(Budgets::all()).grants(),
+            until: options.until.unwrap_or(Until::Budget),
         }),
         Err(fault) => Err(fault),
     }

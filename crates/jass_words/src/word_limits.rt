@@ -9,6 +9,9 @@ pub const LEAST_PARTS: u32 = 2;
 /// The most parts of a collection that are searched as one.
 pub const MOST_PARTS: u32 = 16;
 
+/// The most terms of a query that is searched until its answer is final.
+pub const MOST_FINAL_TERMS: u32 = 64;
+
 /// The most bits of an impact.
 pub const MOST_BITS: u64 = 16;
 

@@ -11,6 +11,7 @@ mod search_ends;
 mod searching;
 mod serving;
 mod sharding;
+mod stopping;
 mod trials;
 
 use jass_base::{Cabinet, Feed, MemCabinet, MemSink, Row, SliceFeed, Steps};
@@ -81,7 +82,7 @@ export INDEX CIFF*\n\
 \x20   write a CIFF file with the impacts as frequencies\n\
 migrate OLD NEW*\n\
 \x20   write an index file of version 1 in version 2\n\
-search INDEX QUERIES RUN* [k=K] [budget=B,..] [tag=TAG] [mode=plain|folded]\n\
+search INDEX QUERIES RUN* [k=K] [budget=B,..] [tag=TAG] [mode=plain|folded] [until=budget|final]\n\
 \x20   answer the queries of a file\n\
 shards N INDEX1 .. INDEXN QUERIES RUN* [k=K] [budget=B,..] [tag=TAG] [mode=plain|folded]\n\
 \x20   answer them over the parts of a collection as over one index\n\

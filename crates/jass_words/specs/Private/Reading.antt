@@ -25,6 +25,7 @@ option_data (option_words.Hits k) = record { key = keys.Hits; said = k }
 option_data (option_words.Limits budgets) = record { key = keys.Limits; said = budgets }
 option_data (option_words.Tag tag) = record { key = keys.Tag; said = tag.now }
 option_data (option_words.Reading mode) = record { key = keys.Reading; said = mode }
+option_data (option_words.Stopping until) = record { key = keys.Stopping; said = until }
 option_data (option_words.Weights rule) = record { key = keys.Weights; said = rule }
 option_data (option_words.Width bits) = record { key = keys.Width; said = bits }
 option_data (option_words.Frames frames) = record { key = keys.Frames; said = frames }
@@ -35,6 +36,7 @@ found read keys.Hits = read.hits
 found read keys.Limits = read.limits
 found read keys.Tag = option_map (λ tag. tag.now) read.tag
 found read keys.Reading = read.mode
+found read keys.Stopping = read.until
 found read keys.Weights = read.rule
 found read keys.Width = read.bits
 found read keys.Frames = read.frames
@@ -45,6 +47,7 @@ is_found read keys.Hits = is_some read.hits
 is_found read keys.Limits = is_some read.limits
 is_found read keys.Tag = is_some read.tag
 is_found read keys.Reading = is_some read.mode
+is_found read keys.Stopping = is_some read.until
 is_found read keys.Weights = is_some read.rule
 is_found read keys.Width = is_some read.bits
 is_found read keys.Frames = is_some read.frames

@@ -232,7 +232,7 @@ fn a_term_of_255_segments_is_answered(rt: HostRuntime) {
 }
 
 /// The CIFF file of a collection.
-fn ciff_of(rt: &impl Abort, alloc: Global, collection: &Collection) -> Vec<u8> {
+pub(super) fn ciff_of(rt: &impl Abort, alloc: Global, collection: &Collection) -> Vec<u8> {
     let mut sink = MemSink::new(alloc, listed(rt, alloc, &[]));
     assert!(rt; write_collection(collection, &mut sink).is_ok());
     Vec::from_slice(alloc, sink.written()).expect(rt, "no memory")

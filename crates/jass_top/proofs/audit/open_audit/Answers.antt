@@ -1,4 +1,4 @@
-use Rattle.std.proofs.Common.{◌∷◌, [], ◌≡◌, subst, ◌∙◌, arith}
+use Rattle.std.proofs.Common.{◌∷◌, [], ◌≡◌, subst, ◌∙◌}
 use Rattle.jass_top.specs.AuditMeaning.{judge_audited, judge_run}
 use Rattle.jass_top.specs.Judging.{Accepted, Shows, behind}
 use Rattle.jass_top.specs.QueryJudging.{without_lines}

@@ -1,6 +1,6 @@
-use Rattle.std.proofs.Common.{◌∷◌, [], subst}
+use Rattle.std.proofs.Common.{[]}
 use Rattle.jass_top.specs.AuditMeaning.{judge_audited, judge_run}
-use Rattle.jass_top.proofs.Behind.{shown_then, unheld_then, unread_first}
+use Rattle.jass_top.proofs.Behind.{unread_first}
 use Rattle.jass_top.proofs.audit_input.open_run.Goals as goal
 
 pub returns-in-Err-clause-unread : goal.returns-in-Err-clause-unread

@@ -1,4 +1,4 @@
-use Rattle.std.proofs.Common.{◌≡◌, ◌^◌, Bool, true, false, List, Option, length, take, nat_lt, refl, subst, inl}
+use Rattle.std.proofs.Common.{◌≡◌, ◌^◌, Bool, true, false, Option, length, take, nat_lt, refl, subst, inl}
 use Rattle.jass_top.proofs.Below.{Files}
 use Rattle.jass_top.specs.Judging.{judge_content}
 use Rattle.jass_top.specs.Private.Inputs.{AcceptsSuch}

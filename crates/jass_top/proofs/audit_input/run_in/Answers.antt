@@ -1,4 +1,4 @@
-use Rattle.shared_lemmas.proofs.Common.{◌≡◌, ℕ, List, Ok, Err, Result, ◌⊎◌, inl, inr, refl, sym, ap, subst, ◌∙◌}
+use Rattle.shared_lemmas.proofs.Common.{◌≡◌, ℕ, List, Ok, Err, Result, ◌⊎◌, inl, inr, refl, sym, ap, ◌∙◌}
 use Rattle.trec_run.specs.declared.run_line.RunLine.{RunLine}
 use Rattle.trec_run.specs.declared.run_line.RunWhy.{RunWhy}
 use Rattle.trec_run.specs.declared.run_line.RunFault.{RunFault}

@@ -1,8 +1,7 @@
-use Rattle.shared_lemmas.proofs.Common.{[], Err, rules, ◌≡◌, refl, subst, inl, arith, Appends}
-use Rattle.jass_top.proofs.Below.{Totals, AppendsPrefix, totals_line, totals_of}
-use Rattle.jass_top.specs.CheckMeaning.{check_meaning, totals_output}
-use Rattle.jass_top.specs.Private.Worlds.{with_files, with_output}
-use Rattle.jass_top.proofs.Stopping.{ran_on_both, same, stopped_unread, uncounted}
+use Rattle.shared_lemmas.proofs.Common.{[], refl, subst, inl, arith, Appends}
+use Rattle.jass_top.proofs.Below.{Totals, AppendsPrefix, totals_line}
+use Rattle.jass_top.specs.CheckMeaning.{totals_output}
+use Rattle.jass_top.proofs.Stopping.{ran_on_both, uncounted}
 use Rattle.jass_top.proofs.check.run_check.Goals as goal
 
 pub returns-in-Ok-clause-runs : goal.returns-in-Ok-clause-runs

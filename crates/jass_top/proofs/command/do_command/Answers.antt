@@ -3,7 +3,7 @@ use Rattle.jass_words.specs.Grants.{granted}
 use Rattle.jass_top.proofs.Below.{Budget, Command, command_data}
 use Rattle.jass_top.specs.Commands.{meaning_of}
 use Rattle.jass_top.specs.Private.Causes.{Runs}
-use Rattle.jass_top.specs.SearchMeaning.{search_meaning, search_within}
+use Rattle.jass_top.specs.SearchMeaning.{search_meaning, search_until, search_within}
 use Rattle.jass_top.specs.ShardsMeaning.{shards_meaning}
 use Rattle.jass_words.specs.Words.{texts}
 use Rattle.jass_top.specs.Worlds.{outer}
@@ -63,7 +63,7 @@ returns-in-Search-clause-runs g c =
     let after = outer g.C.Cabinet g.I.Feed g.O.Sink c.run_search.new.files c.args.input.now c.run_search.new.out c.run_search.new.steps in
     let is : c.as_slice.result.now ≡ granted c.in-Search.budgets = c.as_slice.ensures.items in
     subst (λ (command : Command). Runs (meaning_of (command_data command)) before after c.run_search.result) (sym c.in-Search.is)
-    (subst (λ (budgets : List Budget). Runs (search_meaning c.in-Search.index.now c.in-Search.queries.now c.in-Search.run'.now (search_within c.in-Search.asked.k budgets c.in-Search.asked.tag.now) c.in-Search.asked.mode) before after c.run_search.result)
+    (subst (λ (budgets : List Budget). Runs (search_meaning c.in-Search.index.now c.in-Search.queries.now c.in-Search.run'.now (search_until c.in-Search.until c.in-Search.asked.k budgets c.in-Search.asked.tag.now) c.in-Search.asked.mode) before after c.run_search.result)
     is (c.run_search.ensures.runs before))
 
 pub returns-in-Trial-clause-runs : goal.returns-in-Trial-clause-runs

@@ -1,4 +1,4 @@
-use Rattle.std.proofs.Common.{[], Some, refl, subst, inr, arith}
+use Rattle.std.proofs.Common.{[], Some, refl, subst, inr}
 use Rattle.jass_top.proofs.Below.{CollectionData, canonical_ciff, collection_data, Appends-none, Rose-earlier, index_postings}
 use Rattle.jass_top.specs.ExportMeaning.{export_meaning, exported}
 use Rattle.jass_top.specs.Standing.{LeavesFile, LeavesFront}

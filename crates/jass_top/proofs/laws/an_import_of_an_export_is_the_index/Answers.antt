@@ -1,5 +1,5 @@
-use Rattle.shared_lemmas.proofs.Common.{◌≡◌, ℕ, ◌≤◌, ◌^◌, List, length, Some, ap, subst, ◌∙◌, arith, get}
-use Rattle.jass_top.proofs.Below.{Files, canonical_ciff, FileView, IsFileView, IndexData, index_text, export_of}
+use Rattle.shared_lemmas.proofs.Common.{◌≡◌, ℕ, ◌≤◌, ◌^◌, List, length, Some, ap, subst, ◌∙◌, arith}
+use Rattle.jass_top.proofs.Below.{canonical_ciff, export_of}
 use Rattle.jass_top.specs.Judging.{Accepted, judge_ciff}
 use Rattle.jass_top.specs.Meanings.{Output}
 use Rattle.jass_top.proofs.Exported.{export_keeps_limits, import_is}

@@ -2,7 +2,7 @@ use Rattle.shared_lemmas.proofs.Common.{[], Err, refl, ap, subst, inl, inr, arit
 use Rattle.jass_top.proofs.Below.{Totals, AppendsPrefix, index_data, index_text, SaveFault, Unwritten, Untouched, totals_line}
 use Rattle.jass_top.specs.MakingMeaning.{made_output}
 use Rattle.jass_top.proofs.JudgedFiles.{fits, too_large}
-use Rattle.jass_top.proofs.Stopping.{ran_on_both, same, uncounted}
+use Rattle.jass_top.proofs.Stopping.{ran_on_both, uncounted}
 use Rattle.jass_top.proofs.saving.save_index.Goals as goal
 
 pub returns-in-Err-TooLarge-clause-runs : goal.returns-in-Err-TooLarge-clause-runs

@@ -3,25 +3,28 @@ use Rattle.jass_top.proofs.Below.{Sets, Rose-earlier}
 use Rattle.jass_top.specs.declared.search_stop.SearchStop.TheVariants.{Unwritten}
 use Rattle.shard_search.specs.Union.{union_index}
 use Rattle.jass_words.specs.Words.{texts}
+use Rattle.jass_words.specs.declared.until.Until.TheVariants as untils
+use Rattle.jass_top.specs.SearchMeaning.{search_within}
 use Rattle.jass_top.specs.ShardsMeaning.{judge_shards}
-use Rattle.jass_top.specs.SearchTexts.{budgets_output}
+use Rattle.jass_top.specs.SearchTexts.{search_output}
 use Rattle.jass_top.specs.Private.SearchRuns.{asked_of}
 use Rattle.jass_top.specs.Private.Worlds.{with_files, with_output, with_steps}
-use Rattle.jass_top.proofs.Searched.{exact_for, part_left}
+use Rattle.jass_top.proofs.Searched.{all_named, exact_for, part_left}
+use Rattle.jass_top.proofs.ManyTerms.{all_may_stop_within}
 use Rattle.jass_top.proofs.Stopping.{ran_on_all}
 use Rattle.jass_top.proofs.shards.run_shards.Goals as goal
 
 pub returns-in-Ok-clause-runs : goal.returns-in-Ok-clause-runs
 returns-in-Ok-clause-runs g c = λ beside.
     let index = union_index c.in_ok-union.union in let asked = asked_of c.in_ok-union.found in
-    let output = budgets_output index c.args.shards.asked.k c.args.budgets.now c.args.shards.asked.tag.now asked in
+    let output = search_output index (search_within c.args.shards.asked.k c.args.budgets.now c.args.shards.asked.tag.now) asked in
     ran_on_all (texts c.args.shards.indexes.now) c.args.shards.queries.now refl refl refl refl refl c.in-Ok.ensures.out.rest_stays (record {
       inputs = c.in_ok-union.ensures.accepted.input;
       input = [];
       output = output;
       accepted = c.in_ok-union.ensures.accepted.accepted;
       had = λ feeds. cc;
-      exact = exact_for c.a_search_leaves_its_output.ensures.within_budgets index c.args.shards.asked.k c.args.budgets.now c.args.shards.asked.tag.now asked c.in_ok-union.ensures.accepted.input c.is_searchable.ensures c.in_ok-union.ensures.accepted.holds;
+      exact = exact_for c.a_search_leaves_its_output.ensures.at_stops index (search_within c.args.shards.asked.k c.args.budgets.now c.args.shards.asked.tag.now) asked c.in_ok-union.ensures.accepted.input c.is_searchable.ensures (all_named untils.Budget c.in_ok-union.found) c.in_ok-union.ensures.accepted.holds;
       left = record {
         content = subst (λ told. Sets told (g.C.Cabinet.told c.write_search.new.files) c.args.shards.run.now output.content) c.in_ok-union.ensures.stays c.in-Ok.ensures.run.content;
         text = c.in-Ok.ensures.out.bytes;
@@ -32,10 +35,10 @@ returns-in-Ok-clause-runs g c = λ beside.
 pub returns-in-Err-NoMemory-clause-runs : goal.returns-in-Err-NoMemory-clause-runs
 returns-in-Err-NoMemory-clause-runs g c = λ beside.
     ran_on_all (texts c.args.shards.indexes.now) c.args.shards.queries.now refl refl refl refl refl c.in-Err-NoMemory.ensures.out.rest_stays (inr (
-    part_left c.a_search_leaves_its_output.ensures.within_budgets (texts c.args.shards.indexes.now ++ c.args.shards.queries.now ∷ []) (judge_shards (texts c.args.shards.indexes.now) c.args.shards.queries.now c.args.shards.asked.mode) c.args.shards.run.now c.args.shards.asked.k c.args.budgets.now c.args.shards.asked.tag.now
+    part_left c.a_search_leaves_its_output.ensures.at_stops (texts c.args.shards.indexes.now ++ c.args.shards.queries.now ∷ []) (judge_shards (texts c.args.shards.indexes.now) c.args.shards.queries.now c.args.shards.asked.mode) c.args.shards.run.now (search_within c.args.shards.asked.k c.args.budgets.now c.args.shards.asked.tag.now)
     (union_index c.in_ok-union.union) (asked_of c.in_ok-union.found) (g.C.Cabinet.told c.open_shards.new.files)
     (with_output g.O.Sink c.args.out.now (with_files g.C.Cabinet c.args.files.now (with_steps c.args.steps.now beside))) (with_output g.O.Sink c.write_search.new.out (with_files g.C.Cabinet c.write_search.new.files (with_steps c.write_search.new.steps beside)))
-    c.is_searchable.ensures c.in_ok-union.ensures.stays c.in_ok-union.ensures.accepted c.in-Err-NoMemory.ensures.run.content c.in-Err-NoMemory.ensures.out.bytes c.in-Err-NoMemory.ensures.steps
+    c.is_searchable.ensures (all_named untils.Budget c.in_ok-union.found) c.in_ok-union.ensures.stays c.in_ok-union.ensures.accepted c.in-Err-NoMemory.ensures.run.content c.in-Err-NoMemory.ensures.out.bytes c.in-Err-NoMemory.ensures.steps
     ))
 
 pub returns-in-Err-Unwritten-Run-clause-runs : goal.returns-in-Err-Unwritten-Run-clause-runs
@@ -45,17 +48,20 @@ returns-in-Err-Unwritten-Run-clause-runs g c = λ beside. ran_on_all (texts c.ar
     Rose-earlier (g.C.Cabinet.write_faults c.args.files.now) (g.C.Cabinet.write_faults c.open_shards.new.files) (g.C.Cabinet.write_faults c.write_search.new.files) c.in_ok-union.ensures.others
         (c.in-Err-Unwritten-Run.ensures.run.failed (c.in-Err-Unwritten-Run.field-0-is ∙ ap Unwritten c.in-Err-Unwritten-Run.field-0-0-is)),
   ),
-  part_left c.a_search_leaves_its_output.ensures.within_budgets (texts c.args.shards.indexes.now ++ c.args.shards.queries.now ∷ []) (judge_shards (texts c.args.shards.indexes.now) c.args.shards.queries.now c.args.shards.asked.mode) c.args.shards.run.now c.args.shards.asked.k c.args.budgets.now c.args.shards.asked.tag.now
+  part_left c.a_search_leaves_its_output.ensures.at_stops (texts c.args.shards.indexes.now ++ c.args.shards.queries.now ∷ []) (judge_shards (texts c.args.shards.indexes.now) c.args.shards.queries.now c.args.shards.asked.mode) c.args.shards.run.now (search_within c.args.shards.asked.k c.args.budgets.now c.args.shards.asked.tag.now)
       (union_index c.in_ok-union.union) (asked_of c.in_ok-union.found) (g.C.Cabinet.told c.open_shards.new.files)
       (with_output g.O.Sink c.args.out.now (with_files g.C.Cabinet c.args.files.now (with_steps c.args.steps.now beside))) (with_output g.O.Sink c.write_search.new.out (with_files g.C.Cabinet c.write_search.new.files (with_steps c.write_search.new.steps beside)))
-      c.is_searchable.ensures c.in_ok-union.ensures.stays c.in_ok-union.ensures.accepted c.in-Err-Unwritten-Run.ensures.run.content c.in-Err-Unwritten-Run.ensures.out.bytes c.in-Err-Unwritten-Run.ensures.steps,
+      c.is_searchable.ensures (all_named untils.Budget c.in_ok-union.found) c.in_ok-union.ensures.stays c.in_ok-union.ensures.accepted c.in-Err-Unwritten-Run.ensures.run.content c.in-Err-Unwritten-Run.ensures.out.bytes c.in-Err-Unwritten-Run.ensures.steps,
 )
 
 pub returns-in-Err-Unwritten-Reports-clause-runs : goal.returns-in-Err-Unwritten-Reports-clause-runs
 returns-in-Err-Unwritten-Reports-clause-runs g c = λ beside. ran_on_all (texts c.args.shards.indexes.now) c.args.shards.queries.now refl refl refl refl refl c.in-Err-Unwritten-Reports.ensures.out.rest_stays (
   inl (refl, refl, c.in-Err-Unwritten-Reports.ensures.out.failed (c.in-Err-Unwritten-Reports.field-0-is ∙ ap Unwritten c.in-Err-Unwritten-Reports.field-0-0-is)),
-  part_left c.a_search_leaves_its_output.ensures.within_budgets (texts c.args.shards.indexes.now ++ c.args.shards.queries.now ∷ []) (judge_shards (texts c.args.shards.indexes.now) c.args.shards.queries.now c.args.shards.asked.mode) c.args.shards.run.now c.args.shards.asked.k c.args.budgets.now c.args.shards.asked.tag.now
+  part_left c.a_search_leaves_its_output.ensures.at_stops (texts c.args.shards.indexes.now ++ c.args.shards.queries.now ∷ []) (judge_shards (texts c.args.shards.indexes.now) c.args.shards.queries.now c.args.shards.asked.mode) c.args.shards.run.now (search_within c.args.shards.asked.k c.args.budgets.now c.args.shards.asked.tag.now)
       (union_index c.in_ok-union.union) (asked_of c.in_ok-union.found) (g.C.Cabinet.told c.open_shards.new.files)
       (with_output g.O.Sink c.args.out.now (with_files g.C.Cabinet c.args.files.now (with_steps c.args.steps.now beside))) (with_output g.O.Sink c.write_search.new.out (with_files g.C.Cabinet c.write_search.new.files (with_steps c.write_search.new.steps beside)))
-      c.is_searchable.ensures c.in_ok-union.ensures.stays c.in_ok-union.ensures.accepted c.in-Err-Unwritten-Reports.ensures.run.content c.in-Err-Unwritten-Reports.ensures.out.bytes c.in-Err-Unwritten-Reports.ensures.steps,
+      c.is_searchable.ensures (all_named untils.Budget c.in_ok-union.found) c.in_ok-union.ensures.stays c.in_ok-union.ensures.accepted c.in-Err-Unwritten-Reports.ensures.run.content c.in-Err-Unwritten-Reports.ensures.out.bytes c.in-Err-Unwritten-Reports.ensures.steps,
 )
+
+pub write_search-requires-clause-few_terms : goal.write_search-requires-clause-few_terms
+write_search-requires-clause-few_terms g c = all_may_stop_within c.in_ok-union.found

@@ -8,6 +8,7 @@ use Rattle.jass_top.specs.QueryJudging.{judge_queries, without_lines}
 use Rattle.jass_top.specs.Private.Causes.{Unheld, Unread}
 use Rattle.jass_top.specs.Private.Inputs.{AcceptsSuch, HasInput}
 use Rattle.jass_top.specs.Private.SearchRuns.{asked_of}
+use Rattle.jass_top.proofs.JudgedQueries.{as_asked}
 use Rattle.jass_top.proofs.JudgedShards.{asked_unheld, content_unread, parts_unread, shards_had, union_unheld}
 use Rattle.jass_top.proofs.shards_input.open_shards.Goals as goal
 
@@ -34,7 +35,7 @@ returns-in-Ok-queries_in-clause-accepted g c =
     shards_had (texts c.args.indexes.now) c.args.queries.now c.args.mode (g.C.Cabinet.told c.args.files.now) (indexes_of c.in-Ok.parts) index c.in-Ok-file_front.bytes (asked_of c.in-Ok-queries_in.found) c.in-Ok.ensures.accepted
     (c.in-Ok-unite.ensures.accepted ∙ ap (λ (u : IndexData). Accepted u) (sym c.in-Ok-unite.ensures.union))
     (subst (λ told. AcceptsSuch (judge_content c.args.queries.now told) (λ content. c.in-Ok-file_front.bytes ≡ take 268435457 content)) c.in-Ok.ensures.stays c.in-Ok-file_front.ensures.accepted)
-    (subst (λ (bytes : List ℕ). HasInput (judge_queries c.args.queries.now c.args.mode (texts_of index.terms) bytes) (λ lined. without_lines lined ≡ asked_of c.in-Ok-queries_in.found)) c.as_slice.ensures c.in-Ok-queries_in.ensures.accepted)
+    (subst (λ (bytes : List ℕ). HasInput (judge_queries c.args.queries.now c.args.mode (texts_of index.terms) bytes) (λ lined. without_lines lined ≡ asked_of c.in-Ok-queries_in.found)) c.as_slice.ensures (as_asked c.in-Ok-queries_in.ensures.accepted))
 
 pub returns-clause-unread : goal.returns-clause-unread
 returns-clause-unread g c =

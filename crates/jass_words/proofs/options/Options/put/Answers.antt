@@ -16,6 +16,9 @@ returns-in-Tag c = takes_so c.args.self.now c.args.option (option_words.Tag c.in
 pub returns-in-Reading : goal.returns-in-Reading
 returns-in-Reading c = takes_so _ _ _ _ c.in-Reading.is (elim [ keys.Reading ↦ refl | key ↦ refl ])
 
+pub returns-in-Stopping : goal.returns-in-Stopping
+returns-in-Stopping c = takes_so _ _ _ _ c.in-Stopping.is (elim [ keys.Stopping ↦ refl | key ↦ refl ])
+
 pub returns-in-Weights : goal.returns-in-Weights
 returns-in-Weights c = takes_so _ _ _ _ c.in-Weights.is (elim [ keys.Weights ↦ refl | key ↦ refl ])
 
